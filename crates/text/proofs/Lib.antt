@@ -1,0 +1,3 @@
+mod Digits
+pub mod Writes
+pub mod Lines
