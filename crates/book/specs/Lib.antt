@@ -1,0 +1,12 @@
+pub mod Fault
+pub mod Sums
+pub mod Message
+pub mod Book
+pub mod Day
+pub mod Stocks
+pub mod Orders
+pub mod Trades
+pub mod Feed
+pub mod Play
+pub mod Trace
+pub mod Report

@@ -1,0 +1,5 @@
+pub mod Fault
+pub mod Judging
+pub mod Symbols
+pub mod Table
+pub mod Told
