@@ -37,3 +37,8 @@ played-as b bytes start (Err f) = (Err (Index f), b)
 -- a capture played from a pair
 abbrev pub played : Book → List ℕ → ℕ → Played
 played b bytes start = played-as b bytes start (judged bytes)
+
+-- feeding's answer as playing's, at a pair
+abbrev pub at-pair : Result ℕ FeedFault → ℕ → Result (Unit {0}) PlayFault
+at-pair (Ok n) pair = Ok tt
+at-pair (Err e) pair = Err (Message pair e)

@@ -17,12 +17,12 @@ decoding-at : (f : Feed) (bs : List ℕ) → 0 < length bs → decoding f bs ≡
 decoding-at f [] h = absurd (omega arith)
 decoding-at f (k ∷ bs) h = refl
 
-sized : (r : Row) (bs : List ℕ) → length bs ≡ r .size → by-row (Some r) bs ≡ checked r (values 0 bs (every-field r))
+sized : (r : Row) (bs : List ℕ) → length bs ≡ r .size → by-row (Some r) bs ≡ checked r (values bs (every-field r))
 sized r bs l = rw (eq-eqb (length bs) (r .size) l)
 
 module _ (f : Feed) (bs : List ℕ) (r : Row) (m : Row × List Value)
     (some : 0 < length bs) (row : find table f (getD bs 0 0) ≡ Some r) (long : length bs ≡ r .size)
-    (told : m ≡ (r, values 0 bs (every-field r))) where
+    (told : m ≡ (r, values bs (every-field r))) where
   pub known : decoding f bs ≡ checked (m .0) (m .1)
   known =
       decoding-at f bs some ∙ (ap (λ o. by-row o bs) row

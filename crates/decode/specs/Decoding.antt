@@ -1,7 +1,7 @@
 -- What bytes of a feed are decoded to: a row and the values of its fields, or why they are refused.
 use mathlib.Core.Bool.{Bool, cond, _&&_}
 use mathlib.Core.List.{List, [], _∷_, map}
-use Prim.Native.Nat.{ℕ, _-_, min}
+use Prim.Native.Nat.{ℕ, min}
 use lib.Dec.{eqb}
 use lib.ListN.{length, take, drop}
 use Rattle.std.specs.shelf.Digits.{number}
@@ -23,14 +23,14 @@ use Rattle.wire.specs.Told.{told}
 abbrev pub part : ℕ → ℕ → List ℕ → List ℕ
 part at width bs = take width (drop at bs)
 
--- What a field holds, in bytes that begin at the offset base of the message; numbers have their most significant byte first.
-abbrev pub value : ℕ → List ℕ → Field → Value
-value base bs (num at width t) = figure (number 256 (part (at - base) width bs))
-value base bs (symbol at) = text at (part (at - base) 8 bs)
+-- What a field of a message holds; a number has its most significant byte first.
+abbrev pub value : List ℕ → Field → Value
+value bs (num at width t) = figure (number 256 (part at width bs))
+value bs (symbol at) = text at (part at 8 bs)
 
--- What each field holds, in such bytes.
-abbrev pub values : ℕ → List ℕ → List Field → List Value
-values base bs fs = map (value base bs) fs
+-- What each of these fields of a message holds.
+abbrev pub values : List ℕ → List Field → List Value
+values bs fs = map (value bs) fs
 
 -- The first row with this letter in this feed.
 abbrev pub find : List Row → Feed → ℕ → Option Row
@@ -51,7 +51,7 @@ abbrev pub by-row : Option Row → List ℕ → Result (Row × List Value) WireF
 by-row None bs = Err (Bytes NotInFeed)
 by-row (Some r) bs =
     cond (eqb (length bs) (r .size))
-    (checked r (values 0 bs (every-field r)))
+    (checked r (values bs (every-field r)))
     (Err (Bytes (WrongLength (min (length bs) (r .size)))))
 
 -- Question 1, is there a byte, and then the others: the first byte is the letter.

@@ -3,10 +3,14 @@
 ghost use mathlib.Core.Path.{_≡_};
 ghost use Prim.Native.Nat.{_+_, _≤_};
 ghost use lib.ListN.{length};
+ghost use Rattle.std.specs.Vec.{made};
+ghost use Rattle.std.specs.declared.result.Result.the-variants.{Ok};
+ghost use Rattle.wire.specs.Judging.{row-judged};
 ghost use Rattle.wire.specs.Table.{every-field};
 ghost use Rattle.wire.specs.Told.{with-head, told};
 ghost use Rattle.decode.specs.Decoding.{values, decoding, told-in};
 ghost use Rattle.decode.specs.Kinds.{row-of};
+ghost use Rattle.decode.specs.Rest.{rest-values};
 use crate::kind::Kind;
 use crate::kind::kind_of;
 use wire::fault::BytesFault;
@@ -19,9 +23,10 @@ use wire::message::Message;
 mod kind;
 mod reading;
 
+// A message of this kind, from its head and the bytes after it.
 fn read(kind: Kind, head: Head, rest: &[u8]) -> Message<'_>
     requires { ⌜ length (now rest) + 11 ≡ row-of kind .size ⌝ }
-    ensures { λ r. ⌜ told r ≡ (row-of kind, with-head head (values 11 (now (rest .entry)) (row-of kind .fields))) ⌝ }
+    ensures { λ r. ⌜ told r ≡ (row-of kind, with-head head (rest-values (now (rest .entry)) (row-of kind .fields))) ⌝ }
 {
     match kind {
         Kind::Event => Message::Event(reading::event(head, rest)),
@@ -44,7 +49,7 @@ fn read(kind: Kind, head: Head, rest: &[u8]) -> Message<'_>
 // Takes a message apart: its letter, two bytes of locate, eight of time stamp, and the rest.
 fn take_apart(kind: Kind, bytes: &[u8]) -> Message<'_>
     requires { ⌜ length (now bytes) ≡ row-of kind .size ⌝ ∗ ⌜ 11 ≤ length (now bytes) ⌝ }
-    ensures { λ r. ⌜ told r ≡ (row-of kind, values 0 (now (bytes .entry)) (every-field (row-of kind))) ⌝ }
+    ensures { λ r. ⌜ told r ≡ (row-of kind, values (now (bytes .entry)) (every-field (row-of kind))) ⌝ }
 {
     let [_, l0, l1, t0, t1, t2, t3, t4, t5, t6, t7, rest @ ..] = bytes else {
         unreachable()
@@ -56,7 +61,8 @@ fn take_apart(kind: Kind, bytes: &[u8]) -> Message<'_>
 
 /// The message that bytes of a feed hold, or the first question that they do not pass.
 pub fn decode(feed: Feed, bytes: &[u8]) -> Result<Message<'_>, WireFault>
-    ensures { λ r. ⌜ told-in r ≡ decoding feed (now (bytes .entry)) ⌝ }
+    ensures answer { λ r. ⌜ told-in r ≡ decoding feed (now (bytes .entry)) ⌝ }
+    ensures passed { λ r. ⌜ made r (λ m. row-judged (told m .0) (told m .1) ≡ Ok tt) ⌝ }
 {
     let [letter, ..] = bytes else {
         return Err(WireFault::Bytes(BytesFault::Empty));

@@ -6,7 +6,8 @@ ghost use lib.ListN.{length};
 ghost use Rattle.std.specs.shelf.Digits.{number};
 ghost use Rattle.wire.specs.Table.{text, row-S, row-R, row-H, row-Y, row-A, row-E, row-X, row-D, row-U, row-C, row-B, row-Q, row-T};
 ghost use Rattle.wire.specs.Told.{with-head, of-symbol, of-event, of-directory, of-trading-action, of-restriction, of-add, of-execute, of-cancel, of-delete, of-replace, of-correct, of-break, of-quote, of-sale};
-ghost use Rattle.decode.specs.Decoding.{part, values};
+ghost use Rattle.decode.specs.Decoding.{part};
+ghost use Rattle.decode.specs.Rest.{rest-values};
 use wire::message::Add;
 use wire::message::Break;
 use wire::message::Cancel;
@@ -23,6 +24,7 @@ use wire::message::Sale;
 use wire::message::Symbol;
 use wire::message::TradingAction;
 
+// Eight bytes from an offset, the most significant first.
 fn long(rest: &[u8], at: usize) -> u64
     requires { ⌜ at + 8 ≤ length (now rest) ⌝ }
     ensures { λ r. ⌜ r ≡ number 256 (part at 8 (now (rest .entry))) ⌝ }
@@ -39,6 +41,7 @@ fn long(rest: &[u8], at: usize) -> u64
     ])
 }
 
+// Four bytes likewise.
 fn quad(rest: &[u8], at: usize) -> u32
     requires { ⌜ at + 4 ≤ length (now rest) ⌝ }
     ensures { λ r. ⌜ r ≡ number 256 (part at 4 (now (rest .entry))) ⌝ }
@@ -46,6 +49,7 @@ fn quad(rest: &[u8], at: usize) -> u32
     u32::from_be_bytes([rest[at], rest[at + 1], rest[at + 2], rest[at + 3]])
 }
 
+// One byte, as a letter.
 fn code(rest: &[u8], at: usize) -> char
     requires { ⌜ at < length (now rest) ⌝ }
     ensures { λ r. ⌜ r ≡ number 256 (part at 1 (now (rest .entry))) ⌝ }
@@ -66,7 +70,7 @@ fn stock(rest: &[u8], at: usize) -> Symbol<'_>
 
 pub(crate) fn event(head: Head, rest: &[u8]) -> Event
     requires { ⌜ length (now rest) ≡ 1 ⌝ }
-    ensures { λ r. ⌜ of-event r ≡ with-head head (values 11 (now (rest .entry)) (row-S .fields)) ⌝ }
+    ensures { λ r. ⌜ of-event r ≡ with-head head (rest-values (now (rest .entry)) (row-S .fields)) ⌝ }
 {
     Event {
         head,
@@ -76,7 +80,7 @@ pub(crate) fn event(head: Head, rest: &[u8]) -> Event
 
 pub(crate) fn directory(head: Head, rest: &[u8]) -> Directory<'_>
     requires { ⌜ length (now rest) ≡ 14 ⌝ }
-    ensures { λ r. ⌜ of-directory r ≡ with-head head (values 11 (now (rest .entry)) (row-R .fields)) ⌝ }
+    ensures { λ r. ⌜ of-directory r ≡ with-head head (rest-values (now (rest .entry)) (row-R .fields)) ⌝ }
 {
     Directory {
         head,
@@ -89,7 +93,7 @@ pub(crate) fn directory(head: Head, rest: &[u8]) -> Directory<'_>
 
 pub(crate) fn trading_action(head: Head, rest: &[u8]) -> TradingAction<'_>
     requires { ⌜ length (now rest) ≡ 9 ⌝ }
-    ensures { λ r. ⌜ of-trading-action r ≡ with-head head (values 11 (now (rest .entry)) (row-H .fields)) ⌝ }
+    ensures { λ r. ⌜ of-trading-action r ≡ with-head head (rest-values (now (rest .entry)) (row-H .fields)) ⌝ }
 {
     TradingAction {
         head,
@@ -100,7 +104,7 @@ pub(crate) fn trading_action(head: Head, rest: &[u8]) -> TradingAction<'_>
 
 pub(crate) fn restriction(head: Head, rest: &[u8]) -> Restriction<'_>
     requires { ⌜ length (now rest) ≡ 9 ⌝ }
-    ensures { λ r. ⌜ of-restriction r ≡ with-head head (values 11 (now (rest .entry)) (row-Y .fields)) ⌝ }
+    ensures { λ r. ⌜ of-restriction r ≡ with-head head (rest-values (now (rest .entry)) (row-Y .fields)) ⌝ }
 {
     Restriction {
         head,
@@ -111,7 +115,7 @@ pub(crate) fn restriction(head: Head, rest: &[u8]) -> Restriction<'_>
 
 pub(crate) fn add(head: Head, rest: &[u8]) -> Add<'_>
     requires { ⌜ length (now rest) ≡ 29 ⌝ }
-    ensures { λ r. ⌜ of-add r ≡ with-head head (values 11 (now (rest .entry)) (row-A .fields)) ⌝ }
+    ensures { λ r. ⌜ of-add r ≡ with-head head (rest-values (now (rest .entry)) (row-A .fields)) ⌝ }
 {
     Add {
         head,
@@ -125,7 +129,7 @@ pub(crate) fn add(head: Head, rest: &[u8]) -> Add<'_>
 
 pub(crate) fn execute(head: Head, rest: &[u8]) -> Execute
     requires { ⌜ length (now rest) ≡ 20 ⌝ }
-    ensures { λ r. ⌜ of-execute r ≡ with-head head (values 11 (now (rest .entry)) (row-E .fields)) ⌝ }
+    ensures { λ r. ⌜ of-execute r ≡ with-head head (rest-values (now (rest .entry)) (row-E .fields)) ⌝ }
 {
     Execute {
         head,
@@ -137,7 +141,7 @@ pub(crate) fn execute(head: Head, rest: &[u8]) -> Execute
 
 pub(crate) fn cancel(head: Head, rest: &[u8]) -> Cancel
     requires { ⌜ length (now rest) ≡ 12 ⌝ }
-    ensures { λ r. ⌜ of-cancel r ≡ with-head head (values 11 (now (rest .entry)) (row-X .fields)) ⌝ }
+    ensures { λ r. ⌜ of-cancel r ≡ with-head head (rest-values (now (rest .entry)) (row-X .fields)) ⌝ }
 {
     Cancel {
         head,
@@ -148,7 +152,7 @@ pub(crate) fn cancel(head: Head, rest: &[u8]) -> Cancel
 
 pub(crate) fn delete(head: Head, rest: &[u8]) -> Delete
     requires { ⌜ length (now rest) ≡ 8 ⌝ }
-    ensures { λ r. ⌜ of-delete r ≡ with-head head (values 11 (now (rest .entry)) (row-D .fields)) ⌝ }
+    ensures { λ r. ⌜ of-delete r ≡ with-head head (rest-values (now (rest .entry)) (row-D .fields)) ⌝ }
 {
     Delete {
         head,
@@ -158,7 +162,7 @@ pub(crate) fn delete(head: Head, rest: &[u8]) -> Delete
 
 pub(crate) fn replace(head: Head, rest: &[u8]) -> Replace
     requires { ⌜ length (now rest) ≡ 28 ⌝ }
-    ensures { λ r. ⌜ of-replace r ≡ with-head head (values 11 (now (rest .entry)) (row-U .fields)) ⌝ }
+    ensures { λ r. ⌜ of-replace r ≡ with-head head (rest-values (now (rest .entry)) (row-U .fields)) ⌝ }
 {
     Replace {
         head,
@@ -171,7 +175,7 @@ pub(crate) fn replace(head: Head, rest: &[u8]) -> Replace
 
 pub(crate) fn correct(head: Head, rest: &[u8]) -> Correct
     requires { ⌜ length (now rest) ≡ 28 ⌝ }
-    ensures { λ r. ⌜ of-correct r ≡ with-head head (values 11 (now (rest .entry)) (row-C .fields)) ⌝ }
+    ensures { λ r. ⌜ of-correct r ≡ with-head head (rest-values (now (rest .entry)) (row-C .fields)) ⌝ }
 {
     Correct {
         head,
@@ -184,7 +188,7 @@ pub(crate) fn correct(head: Head, rest: &[u8]) -> Correct
 
 pub(crate) fn broken(head: Head, rest: &[u8]) -> Break
     requires { ⌜ length (now rest) ≡ 8 ⌝ }
-    ensures { λ r. ⌜ of-break r ≡ with-head head (values 11 (now (rest .entry)) (row-B .fields)) ⌝ }
+    ensures { λ r. ⌜ of-break r ≡ with-head head (rest-values (now (rest .entry)) (row-B .fields)) ⌝ }
 {
     Break {
         head,
@@ -194,7 +198,7 @@ pub(crate) fn broken(head: Head, rest: &[u8]) -> Break
 
 pub(crate) fn quote(head: Head, rest: &[u8]) -> Quote<'_>
     requires { ⌜ length (now rest) ≡ 32 ⌝ }
-    ensures { λ r. ⌜ of-quote r ≡ with-head head (values 11 (now (rest .entry)) (row-Q .fields)) ⌝ }
+    ensures { λ r. ⌜ of-quote r ≡ with-head head (rest-values (now (rest .entry)) (row-Q .fields)) ⌝ }
 {
     Quote {
         head,
@@ -208,7 +212,7 @@ pub(crate) fn quote(head: Head, rest: &[u8]) -> Quote<'_>
 
 pub(crate) fn sale(head: Head, rest: &[u8]) -> Sale<'_>
     requires { ⌜ length (now rest) ≡ 28 ⌝ }
-    ensures { λ r. ⌜ of-sale r ≡ with-head head (values 11 (now (rest .entry)) (row-T .fields)) ⌝ }
+    ensures { λ r. ⌜ of-sale r ≡ with-head head (rest-values (now (rest .entry)) (row-T .fields)) ⌝ }
 {
     Sale {
         head,

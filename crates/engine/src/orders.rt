@@ -66,8 +66,7 @@ impl<S: Store<Stock>, O: Store<Order>, M: Store<Trade>> Engine<S, O, M> {
     fn order_of(&self, locate: u16, reference: u64) -> Result<Order, BookFault>
         ensures { λ r. ⌜ r ≡ order (bookOf S·Holds O·Holds M·Holds (now (self .entry))) locate reference ⌝ }
     {
-        let order = self
-            .orders
+        let order = self.orders
             .get(reference)
             .ok_or(BookFault::UnknownReference)?;
         unless(order.locate != locate, BookFault::OtherLocate)?;
@@ -142,10 +141,7 @@ impl<S: Store<Stock>, O: Store<Order>, M: Store<Trade>> Engine<S, O, M> {
         let stock = self.known(m.head.locate)?;
         let order = self.order_of(m.head.locate, m.reference)?;
         let _ = self.orders.take_out(m.reference);
-        let sums = stock
-            .sums
-            .removed(order.shares)
-            .lowered(order.shares, true);
+        let sums = stock.sums.removed(order.shares).lowered(order.shares, true);
         settle(&mut self.stocks, m.head.locate, stock, m.head.stamp, sums);
         Ok(())
     }

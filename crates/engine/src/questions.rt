@@ -23,7 +23,11 @@ pub(crate) fn unless(refused: bool, fault: BookFault) -> Result<(), BookFault>
 }
 
 /// A store's refusal as the book's.
-pub(crate) fn placed(put: Result<(), PutRefusal>, present: BookFault, full: BookFault) -> Result<(), BookFault>
+pub(crate) fn placed(
+    put: Result<(), PutRefusal>,
+    present: BookFault,
+    full: BookFault,
+) -> Result<(), BookFault>
     ensures { λ r. ⌜ r ≡ placed put present full ⌝ }
 {
     match put {
@@ -52,7 +56,13 @@ pub(crate) fn owned(stock: &Stock, symbol: &[u8], place: usize) -> Result<(), Bo
 }
 
 /// Gives a known stock its new sums and time stamp.
-pub(crate) fn settle<S: Store<Stock>>(stocks: &mut S, locate: u16, stock: Stock, stamp: u64, sums: Sums)
+pub(crate) fn settle<S: Store<Stock>>(
+    stocks: &mut S,
+    locate: u16,
+    stock: Stock,
+    stamp: u64,
+    sums: Sums,
+)
     ensures { λ _. ⌜ S·Holds .held (now (stocks .exit)) ≡ settle (S·Holds .held (now (stocks .entry))) locate stock stamp sums ⌝ }
 {
     let _ = stocks.change(

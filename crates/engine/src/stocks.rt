@@ -33,7 +33,14 @@ fn eight(symbol: &[u8]) -> [u8; 8]
 {
     if symbol.len() == 8 {
         [
-            symbol[0], symbol[1], symbol[2], symbol[3], symbol[4], symbol[5], symbol[6], symbol[7],
+            symbol[0],
+            symbol[1],
+            symbol[2],
+            symbol[3],
+            symbol[4],
+            symbol[5],
+            symbol[6],
+            symbol[7],
         ]
     } else {
         [b' '; 8]

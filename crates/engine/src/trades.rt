@@ -35,8 +35,7 @@ impl<S: Store<Stock>, O: Store<Order>, M: Store<Trade>> Engine<S, O, M> {
     fn trade_of(&self, locate: u16, match_number: u64) -> Result<Trade, BookFault>
         ensures { λ r. ⌜ r ≡ trade (bookOf S·Holds O·Holds M·Holds (now (self .entry))) locate «match_number» ⌝ }
     {
-        let trade = self
-            .trades
+        let trade = self.trades
             .get(match_number)
             .ok_or(BookFault::UnknownMatch)?;
         unless(trade.locate != locate, BookFault::OtherLocate)?;

@@ -3,6 +3,7 @@
 ghost use mathlib.Core.Path.{_≡_};
 ghost use Prim.Native.Nat.{_+_, _≤_};
 ghost use lib.ListN.{length};
+ghost use Rattle.std.specs.Written.{decimal};
 ghost use Rattle.text.specs.FaultLine.{fault-line};
 ghost use Rattle.text.specs.Placed.{Placed};
 use crate::TooShort;
@@ -14,10 +15,10 @@ use crate::number::width;
 pub fn put_fault_line(buf: &mut [u8], number: u8, place: u64, pair: u64) -> Result<usize, TooShort>
     ensures { λ r. ⌜ Placed (now (buf .entry)) 0 (fault-line number place pair) (now (buf .exit)) r ⌝ }
 {
-    let number = number as u64;
-    if buf.len() < 20 + width(number) + width(place) + width(pair) {
+    if buf.len() < fault_line_width(number, place, pair) {
         return Err(TooShort);
     }
+    let number = number as u64;
     let at = text_at(buf, 0, b"fault ");
     let at = number_at(buf, at, number);
     let at = text_at(buf, at, b" place ");
@@ -25,4 +26,12 @@ pub fn put_fault_line(buf: &mut [u8], number: u8, place: u64, pair: u64) -> Resu
     let at = text_at(buf, at, b" pair ");
     let at = number_at(buf, at, pair);
     Ok(text_at(buf, at, b"\n"))
+}
+
+/// How many bytes that line takes.
+pub fn fault_line_width(number: u8, place: u64, pair: u64) -> usize
+    ensures value { λ r. ⌜ r ≡ length (fault-line number place pair) ⌝ }
+    ensures sum { λ r. ⌜ r ≡ 20 + length (decimal number) + length (decimal place) + length (decimal pair) ⌝ }
+{
+    20 + width(number as u64) + width(place) + width(pair)
 }

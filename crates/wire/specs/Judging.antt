@@ -1,4 +1,4 @@
--- The questions 4 to 8 that a message's fields must pass.
+-- The questions that a message's fields must pass: 4 on the locate, 5 on a symbol, 6 on a code, 7 on bounds, 8 on price times shares.
 use mathlib.Core.Bool.{Bool, true, false, cond, _&&_}
 use mathlib.Core.List.{List, [], _∷_}
 use Prim.Native.Nat.{ℕ, _+_, _*_}
@@ -26,7 +26,7 @@ meets free n = true
 meets (one-of cs) n = isSome (rank 0 cs n)
 meets (within low high) n = leb low n && leb n high
 
--- Why a number is refused that is not what the test at this offset wants. (Any number is what `free` wants.)
+-- Why a number is refused that is not what the test of the field at this offset wants: 4, 6 or 7. Any number is what `free` wants.
 abbrev pub refusal : Test → ℕ → FieldsFault
 refusal nought at = WrongLocate
 refusal some at = WrongLocate
@@ -39,7 +39,7 @@ abbrev pub verdict : Bool → FieldsFault → Result (Unit {0}) FieldsFault
 verdict true f = Ok tt
 verdict false f = Err f
 
--- The answer on a field and what it holds.
+-- The answer on a field and what it holds; question 5 where that is a symbol.
 abbrev pub judged : Field → Value → Result (Unit {0}) FieldsFault
 judged (num at width t) (figure n) = verdict (meets t n) (refusal t at)
 judged (symbol at) (text place s) = verdict (well-formed s) (BadSymbol at)
@@ -65,7 +65,7 @@ figure-at at (symbol k ∷ fs) (v ∷ vs) = figure-at at fs vs
 figure-at at (num k width t ∷ fs) (text place s ∷ vs) = figure-at at fs vs
 figure-at at (num k width t ∷ fs) (figure n ∷ vs) = cond (eqb k at) n (figure-at at fs vs)
 
--- The answer on price times shares, where it is limited.
+-- Question 8: price times shares, where it is limited, is at most 100,000,000,000,000.
 abbrev pub limit-judged : Option (ℕ × ℕ) → List Field → List Value → Result (Unit {0}) FieldsFault
 limit-judged None fs vs = Ok tt
 limit-judged (Some l) fs vs =

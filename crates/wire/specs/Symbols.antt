@@ -6,11 +6,11 @@ use Prim.Native.Nat.{ℕ, _≤_, _<_}
 use lib.Dec.{eqb, leb}
 use lib.ListN.{length, getD}
 
--- A byte that a symbol may have before its spaces.
+-- A byte from 0x21 to 0x7E.
 abbrev pub Printable : ℕ → Type 0
 Printable c = (0x21 ≤ c) × (c ≤ 0x7E)
 
--- The rule: eight bytes, of which the first n, one to eight, are printable and the others spaces.
+-- The rule: one to eight bytes from 0x21 to 0x7E, followed only by spaces to eight.
 abbrev pub Symbol-rule : List ℕ → Type 0
 Symbol-rule s =
     (n : ℕ) × (1 ≤ n) × (n ≤ 8) × (length s ≡ 8)

@@ -9,7 +9,7 @@ ghost use Rattle.wire.specs.Table.{num, some, nought, within, figure};
 ghost use Rattle.wire.specs.declared.fault.FieldsFault.the-variants.{UnlistedCode as unlisted, OverLimit as over-limit};
 use crate::fault::FieldsFault;
 
-// Is the code, whose number this is, listed?
+// Question 6: is the code, whose number this is, listed?
 pub(crate) fn listed(number: Option<u8>, place: usize) -> Result<(), FieldsFault>
     ensures { λ r. ⌜ r ≡ verdict (isSome number) (unlisted place) ⌝ }
 {
@@ -19,6 +19,7 @@ pub(crate) fn listed(number: Option<u8>, place: usize) -> Result<(), FieldsFault
     }
 }
 
+// Question 4, of an event: is the locate 0?
 pub(crate) fn no_locate(locate: u16) -> Result<(), FieldsFault>
     ensures { λ r. ⌜ r ≡ judged (num 1 2 nought) (figure locate) ⌝ }
 {
@@ -29,6 +30,7 @@ pub(crate) fn no_locate(locate: u16) -> Result<(), FieldsFault>
     }
 }
 
+// Question 4, of any other message: is the locate above 0?
 pub(crate) fn some_locate(locate: u16) -> Result<(), FieldsFault>
     ensures { λ r. ⌜ r ≡ judged (num 1 2 some) (figure locate) ⌝ }
 {
@@ -39,6 +41,7 @@ pub(crate) fn some_locate(locate: u16) -> Result<(), FieldsFault>
     }
 }
 
+// Question 7, of shares and sizes.
 pub(crate) fn shares_within(shares: u32, place: usize) -> Result<(), FieldsFault>
     ensures { λ r. ⌜ r ≡ judged (num place 4 (within 1 1000000)) (figure shares) ⌝ }
 {
@@ -49,6 +52,7 @@ pub(crate) fn shares_within(shares: u32, place: usize) -> Result<(), FieldsFault
     }
 }
 
+// Question 7, of prices.
 pub(crate) fn price_within(price: u64, place: usize) -> Result<(), FieldsFault>
     ensures { λ r. ⌜ r ≡ judged (num place 8 (within 1 2000000000)) (figure price) ⌝ }
 {
@@ -59,7 +63,7 @@ pub(crate) fn price_within(price: u64, place: usize) -> Result<(), FieldsFault>
     }
 }
 
-// A price of a quote may also be 0.
+// Question 7, of a quote's prices, which may also be 0.
 pub(crate) fn quoted_within(price: u64, place: usize) -> Result<(), FieldsFault>
     ensures { λ r. ⌜ r ≡ judged (num place 8 (within 0 2000000000)) (figure price) ⌝ }
 {
@@ -70,7 +74,7 @@ pub(crate) fn quoted_within(price: u64, place: usize) -> Result<(), FieldsFault>
     }
 }
 
-// Is price times shares, both within bounds, within its limit?
+// Question 8: is price times shares, both within bounds, within its limit?
 pub(crate) fn product_within(price: u64, shares: u32, place: usize) -> Result<(), FieldsFault>
     requires { ⌜ price ≤ 2000000000 ⌝ ∗ ⌜ shares ≤ 1000000 ⌝ }
     ensures { λ r. ⌜ r ≡ verdict (leb (price * shares) 100000000000000) (over-limit place) ⌝ }

@@ -9,13 +9,14 @@ ghost use Rattle.wire.specs.Told.{of-symbol};
 use crate::fault::FieldsFault;
 use crate::message::Symbol;
 
+// From 0x21 to 0x7E?
 fn is_printable(b: u8) -> bool
     ensures { λ r. ⌜ r ≡ printable b ⌝ }
 {
     b >= 0x21 && b <= 0x7e
 }
 
-/// Are these a symbol: eight bytes, one to eight printable ones followed only by spaces?
+/// Are these a symbol: one to eight bytes from 0x21 to 0x7E, followed only by spaces to eight?
 pub fn is_symbol(bytes: &[u8]) -> bool
     ensures test { λ r. ⌜ r ≡ well-formed (now (bytes .entry)) ⌝ }
     ensures rule { λ r. ⌜ Decides r (Symbol-rule (now (bytes .entry))) ⌝ }
@@ -39,6 +40,7 @@ pub fn is_symbol(bytes: &[u8]) -> bool
 }
 
 impl Symbol<'_> {
+    // Question 5, where the field is at this offset.
     pub(crate) fn judge(&self, place: usize) -> Result<(), FieldsFault>
         ensures { λ r. ⌜ r ≡ judged (symbol place) (of-symbol (now (self .entry))) ⌝ }
     {

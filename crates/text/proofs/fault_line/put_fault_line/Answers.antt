@@ -10,9 +10,6 @@ use Rattle.text.specs.FaultLine.{fault-line}
 use Rattle.text.proofs.Writes.{length-fault-line, stands-none, stands-more, stands-as}
 use Rattle.text.proofs.fault_line.put_fault_line.Needs as need
 
-pub returns-then-buf-width : need.returns-then-buf-width
-returns-then-buf-width c = (omega (arith, length-fault-line (c .args .number) (c .args .place) (c .args .pair)), refl)
-
 pub returns : need.returns
 returns c =
     let n = decimal (c .args .number) in

@@ -1,0 +1,3 @@
+mod Played
+mod Reports
+pub mod Fronts
