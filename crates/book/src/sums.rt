@@ -48,13 +48,9 @@ impl Sums {
     pub fn executed(self, price: u64, shares: u32) -> Sums
         ensures { λ r. ⌜ r ≡ executes self price shares ⌝ }
     {
-        let shares = shares as u64;
         Sums {
-            executed: self.executed.saturating_add(shares),
-            live_trades: self.live_trades.saturating_add(1),
-            live_volume: self.live_volume.saturating_add(shares),
-            turnover: self.turnover.saturating_add(price.saturating_mul(shares)),
-            ..self
+            executed: self.executed.saturating_add(shares as u64),
+            ..self.traded(price, shares)
         }
     }
 
