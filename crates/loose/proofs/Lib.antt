@@ -1,0 +1,7 @@
+pub mod Writes
+pub mod Gathers
+pub mod Scans
+pub mod Ways
+pub mod Homes
+pub mod Holes
+pub mod Rows
