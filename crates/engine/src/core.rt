@@ -8,16 +8,13 @@ use book::phase::Phase;
 use book::value::Order;
 use book::value::Stock;
 use book::value::Trade;
+use ledger::core::Ledger;
 use store::Store;
 
 /// A book over three stores: stocks under their locates, open orders under their references, trades under their match numbers.
 #[derive(Drop)]
 pub struct Engine<S, O, M> {
-    pub(crate) stocks: S,
-    pub(crate) orders: O,
-    pub(crate) trades: M,
-    pub(crate) phase: Phase,
-    pub(crate) accepted: u64,
+    pub(crate) ledger: Ledger<S, O, M>,
 }
 
 impl<S: Store<Stock>, O: Store<Order>, M: Store<Trade>> Engine<S, O, M> {
@@ -29,11 +26,13 @@ impl<S: Store<Stock>, O: Store<Order>, M: Store<Trade>> Engine<S, O, M> {
         orders.clear();
         trades.clear();
         Engine {
-            stocks,
-            orders,
-            trades,
-            phase: Phase::Before,
-            accepted: 0,
+            ledger: Ledger {
+                stocks,
+                orders,
+                trades,
+                phase: Phase::Before,
+                accepted: 0,
+            },
         }
     }
 }

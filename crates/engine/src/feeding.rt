@@ -8,7 +8,6 @@ ghost use Rattle.book.specs.Message.{heard};
 ghost use Rattle.engine.specs.Engine.{bookOf};
 ghost use Rattle.wire.specs.Told.{told};
 use crate::core::Engine;
-use crate::day::advance;
 use book::fault::BookFault;
 use book::fault::FeedFault;
 use book::fault::FeedFromBook;
@@ -17,7 +16,18 @@ use book::value::Order;
 use book::value::Stock;
 use book::value::Trade;
 use decode::decode;
+use ledger::day::advance;
+use order_steps::add;
+use order_steps::cancel;
+use order_steps::delete;
+use order_steps::execute;
+use order_steps::replace;
+use stock_steps::act_on_trading;
+use stock_steps::list;
+use stock_steps::restrict;
 use store::Store;
+use trade_steps::break_trade;
+use trade_steps::correct;
 use wire::message::Event;
 use wire::message::Feed;
 use wire::message::Message;
@@ -32,12 +42,12 @@ impl<S: Store<Stock>, O: Store<Order>, M: Store<Trade>> Engine<S, O, M> {
         ensures after { λ _. ⌜ bookOf S·Holds O·Holds M·Holds (now (self .exit)) ≡ after (bookOf S·Holds O·Holds M·Holds (now (self .entry))) (fed (bookOf S·Holds O·Holds M·Holds (now (self .entry))) (now (bytes .entry))) ⌝ }
     {
         let message = decode(Feed::Depth, bytes)?;
-        if self.accepted >= MOST {
+        if self.ledger.accepted >= MOST {
             return Err(FeedFault::Book(BookFault::TooMany));
         }
-        let accepted = self.accepted + 1;
+        let accepted = self.ledger.accepted + 1;
         self.act(&message)?;
-        self.accepted = accepted;
+        self.ledger.accepted = accepted;
         Ok(accepted)
     }
 
@@ -45,7 +55,7 @@ impl<S: Store<Stock>, O: Store<Order>, M: Store<Trade>> Engine<S, O, M> {
     fn event(&mut self, m: &Event) -> Result<(), BookFault>
         ensures { λ r. ⌜ Acts (bookOf S·Holds O·Holds M·Holds (now (self .entry))) (heard (told (Message.Event (now (m .entry))))) r (bookOf S·Holds O·Holds M·Holds (now (self .exit))) ⌝ }
     {
-        advance(&mut self.phase, m.event)
+        advance(&mut self.ledger.phase, m.event)
     }
 
     /// Does what a message says. Decoding lets no message of another feed through.
@@ -54,16 +64,16 @@ impl<S: Store<Stock>, O: Store<Order>, M: Store<Trade>> Engine<S, O, M> {
     {
         match m {
             Message::Event(m) => self.event(m),
-            Message::Directory(m) => self.list(m),
-            Message::TradingAction(m) => self.act_on_trading(m),
-            Message::Restriction(m) => self.restrict(m),
-            Message::Add(m) => self.add(m),
-            Message::Execute(m) => self.execute(m),
-            Message::Cancel(m) => self.cancel(m),
-            Message::Delete(m) => self.delete(m),
-            Message::Replace(m) => self.replace(m),
-            Message::Correct(m) => self.correct(m),
-            Message::Break(m) => self.break_trade(m),
+            Message::Directory(m) => list(&mut self.ledger, m),
+            Message::TradingAction(m) => act_on_trading(&mut self.ledger, m),
+            Message::Restriction(m) => restrict(&mut self.ledger, m),
+            Message::Add(m) => add(&mut self.ledger, m),
+            Message::Execute(m) => execute(&mut self.ledger, m),
+            Message::Cancel(m) => cancel(&mut self.ledger, m),
+            Message::Delete(m) => delete(&mut self.ledger, m),
+            Message::Replace(m) => replace(&mut self.ledger, m),
+            Message::Correct(m) => correct(&mut self.ledger, m),
+            Message::Break(m) => break_trade(&mut self.ledger, m),
             Message::Quote(_) => Err(BookFault::NotDue(0)),
             Message::Sale(_) => Err(BookFault::NotDue(0)),
             Message::SaleCancel(_) => Err(BookFault::NotDue(0)),

@@ -19,7 +19,8 @@ impl<S: Store<Stock>, O: Store<Order>, M: Store<Trade>> Engine<S, O, M> {
     pub fn stock(&self, locate: u16) -> Result<Stock, BookFault>
         ensures { λ r. ⌜ r ≡ stock (bookOf S·Holds O·Holds M·Holds (now (self .entry))) locate 0 ⌝ }
     {
-        self.stocks
+        self.ledger
+            .stocks
             .get(locate as u64)
             .ok_or(BookFault::UnknownLocate(0))
     }
@@ -28,25 +29,25 @@ impl<S: Store<Stock>, O: Store<Order>, M: Store<Trade>> Engine<S, O, M> {
     pub fn stock_from(&self, locate: u64) -> Option<(u64, Stock)>
         ensures { λ r. ⌜ r ≡ from (bookOf S·Holds O·Holds M·Holds (now (self .entry)) .stocks .pairs) locate ⌝ }
     {
-        self.stocks.first_from(locate)
+        self.ledger.stocks.first_from(locate)
     }
 
     /// An open order.
     pub fn order(&self, reference: u64) -> Option<Order>
         ensures { λ r. ⌜ r ≡ find (bookOf S·Holds O·Holds M·Holds (now (self .entry)) .orders) reference ⌝ }
     {
-        self.orders.get(reference)
+        self.ledger.orders.get(reference)
     }
 
     /// The last match number, its standing and the steps taken, from a match number through its corrections.
     pub fn trace(&self, match_number: u64) -> Option<(u64, Standing, u64)>
         ensures { λ r. ⌜ r ≡ trace (bookOf S·Holds O·Holds M·Holds (now (self .entry)) .trades) «match_number» ⌝ }
     {
-        let count = self.trades.count();
+        let count = self.ledger.trades.count();
         let mut number = match_number;
         let mut steps = 0;
         while steps < count {
-            match self.trades.get(number)?.standing {
+            match self.ledger.trades.get(number)?.standing {
                 Standing::Corrected(next) => number = next,
                 standing => return Some((number, standing, steps as u64)),
             }

@@ -9,8 +9,8 @@ use Rattle.day.proofs.reporting.fits.Given as given
 
 abbrev pub Inv-loop-locate : given.InvT-loop-locate
 Inv-loop-locate g l =
-    leb (length (lines (lines-of (onward (g .S·Holds .held (l .engine .stocks) .pairs) (l .key))))) (l .left)
-    ≡ leb (length (lines (lines-of (g .S·Holds .held (l .engine .stocks) .pairs)))) (l .room)
+    leb (length (lines (lines-of (onward (g .S·Holds .held (l .engine .ledger .stocks) .pairs) (l .key))))) (l .left)
+    ≡ leb (length (lines (lines-of (g .S·Holds .held (l .engine .ledger .stocks) .pairs)))) (l .room)
 
 abbrev pub μ-loop-locate : given.MeasureT-loop-locate
-μ-loop-locate g l = length (onward (g .S·Holds .held (l .engine .stocks) .pairs) (l .key))
+μ-loop-locate g l = length (onward (g .S·Holds .held (l .engine .ledger .stocks) .pairs) (l .key))

@@ -13,17 +13,17 @@ use Rattle.day.proofs.reporting.put_lines.Needs as need
 
 pub loop-locate-holds : need.loop-locate-holds
 loop-locate-holds g c =
-    let r = text-of (g .S·Holds .held (c .args .engine .now .stocks) .pairs) in
+    let r = text-of (g .S·Holds .held (c .args .engine .now .ledger .stocks) .pairs) in
     let z : c .args .start - c .args .start ≡ 0 = omega arith in (
       omega arith,
       omega arith,
       stands-none (c .args .buf .now) (c .args .start) .bytes ∙ ap (λ (i : ℕ). written (c .args .buf .now) (c .args .start) (take i r)) (sym z),
-      ap (λ (i : ℕ). drop i r) z ∙ sym (all-left (g .S·Holds .held (c .args .engine .now .stocks))),
+      ap (λ (i : ℕ). drop i r) z ∙ sym (all-left (g .S·Holds .held (c .args .engine .now .ledger .stocks))),
     )
 
 pub unreachable-requires : need.unreachable-requires
 unreachable-requires g c κs =
-    let s = c .args .engine .now .stocks in
+    let s = c .args .engine .now .ledger .stocks in
     let inv = c .loop-locate .inv in
     let n = ap (λ (l : Line). length (line l)) (c .line-of .ensures) in
     let room = has-room (g .S·Holds .held s) (g .S·Holds·met .sound s) (c .loop-locate .key) (c .in-Some .locate, c .in-Some .stock) (c .in-Some .ensures tt)
@@ -32,7 +32,7 @@ unreachable-requires g c κs =
 
 pub returns-in-rest-checked-add : need.returns-in-rest-checked-add
 returns-in-rest-checked-add g c =
-    let s = c .args .engine .now .stocks in
+    let s = c .args .engine .now .ledger .stocks in
     let h = g .S·Holds .held s in
     let inv = c .loop-locate .inv in
     let p : ℕ × Stock = (c .in-Some .locate, c .in-Some .stock) in
@@ -47,11 +47,11 @@ returns-in-rest-checked-add g c =
 
 pub loop-locate-less : need.loop-locate-less
 loop-locate-less g c =
-    fewer (g .S·Holds .held (c .args .engine .now .stocks)) (g .S·Holds·met .sound (c .args .engine .now .stocks)) (c .loop-locate .key) (c .in-Some .locate, c .in-Some .stock) (c .in-Some .ensures tt) _ (c .in-Some-checked-add .ensures tt .1)
+    fewer (g .S·Holds .held (c .args .engine .now .ledger .stocks)) (g .S·Holds·met .sound (c .args .engine .now .ledger .stocks)) (c .loop-locate .key) (c .in-Some .locate, c .in-Some .stock) (c .in-Some .ensures tt) _ (c .in-Some-checked-add .ensures tt .1)
 
 pub loop-locate-again : need.loop-locate-again
 loop-locate-again g c =
-    let s = c .args .engine .now .stocks in
+    let s = c .args .engine .now .ledger .stocks in
     let h = g .S·Holds .held s in
     let inv = c .loop-locate .inv in
     let p : ℕ × Stock = (c .in-Some .locate, c .in-Some .stock) in
@@ -65,7 +65,7 @@ loop-locate-again g c =
 
 pub returns : need.returns
 returns g c =
-    let h = g .S·Holds .held (c .args .engine .now .stocks) in
+    let h = g .S·Holds .held (c .args .engine .now .ledger .stocks) in
     let inv = c .loop-locate .inv in
     let w = stands-whole h (c .args .buf .now) (c .loop-locate .buf) (c .args .start) (c .loop-locate .at) (inv .0) (inv .1) (inv .2) (inv .3 ∙ none-left h (c .loop-locate .key) (c .in-rest .ensures tt)) in
     record { end = w .0; after = w .1 }

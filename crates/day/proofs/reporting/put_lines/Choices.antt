@@ -11,9 +11,9 @@ use Rattle.day.proofs.reporting.put_lines.Given as given
 abbrev pub Inv-loop-locate : given.InvT-loop-locate
 Inv-loop-locate g l =
     (l .start ≤ l .at)
-    × (l .at ≤ l .start + length (lines (lines-of (g .S·Holds .held (l .engine .stocks) .pairs))))
-    × (l .buf ≡ written (l .entry .buf) (l .start) (take (l .at - l .start) (lines (lines-of (g .S·Holds .held (l .engine .stocks) .pairs)))))
-    × (drop (l .at - l .start) (lines (lines-of (g .S·Holds .held (l .engine .stocks) .pairs))) ≡ lines (lines-of (onward (g .S·Holds .held (l .engine .stocks) .pairs) (l .key))))
+    × (l .at ≤ l .start + length (lines (lines-of (g .S·Holds .held (l .engine .ledger .stocks) .pairs))))
+    × (l .buf ≡ written (l .entry .buf) (l .start) (take (l .at - l .start) (lines (lines-of (g .S·Holds .held (l .engine .ledger .stocks) .pairs)))))
+    × (drop (l .at - l .start) (lines (lines-of (g .S·Holds .held (l .engine .ledger .stocks) .pairs))) ≡ lines (lines-of (onward (g .S·Holds .held (l .engine .ledger .stocks) .pairs) (l .key))))
 
 abbrev pub μ-loop-locate : given.MeasureT-loop-locate
-μ-loop-locate g l = length (onward (g .S·Holds .held (l .engine .stocks) .pairs) (l .key))
+μ-loop-locate g l = length (onward (g .S·Holds .held (l .engine .ledger .stocks) .pairs) (l .key))

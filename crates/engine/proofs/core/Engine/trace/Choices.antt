@@ -7,7 +7,7 @@ use Rattle.engine.proofs.core.Engine.trace.Given as given
 abbrev pub Inv-loop-steps : given.InvT-loop-steps
 Inv-loop-steps g l =
     (l .steps ≤ l .count) ×
-    (walk (g .M·Holds .held (l .self .trades)) (l .count - l .steps) (l .number) (l .steps) ≡ walk (g .M·Holds .held (l .self .trades)) (l .count) (l .entry .number) 0)
+    (walk (g .M·Holds .held (l .self .ledger .trades)) (l .count - l .steps) (l .number) (l .steps) ≡ walk (g .M·Holds .held (l .self .ledger .trades)) (l .count) (l .entry .number) 0)
 
 abbrev pub μ-loop-steps : given.MeasureT-loop-steps
 μ-loop-steps g l = l .count - l .steps
