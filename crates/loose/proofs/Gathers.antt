@@ -16,7 +16,7 @@ use Rattle.std.specs.declared.option.Option.the-variants.{Some, None}
 use Rattle.store.specs.Held.{at, write, Rising, Fit}
 use Rattle.store.proofs.Maps.{at-write, from-write, same}
 use Rattle.loose.specs.Slots.{gathered, distinct, holds, passes, Blank}
-use Rattle.loose.proofs.Writes.{fit-write, length-write}
+use Rattle.store.proofs.Writes.{fit-write, length-write}
 
 pub none-from : {A : Type 0} (o : Option A) → isSome o ≡ false → o ≡ None
 none-from None e = refl

@@ -1,4 +1,3 @@
-pub mod Writes
 pub mod Gathers
 pub mod Scans
 pub mod Ways

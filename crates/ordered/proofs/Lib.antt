@@ -1,4 +1,3 @@
 pub mod Ranks
 pub mod Slots
 pub mod Shifts
-pub mod Rows

@@ -126,25 +126,6 @@ module _ {V : Type 0} where
       let more = write-out (suc (p .0)) ps k i (f .1) (omega arith) e in
       grind (arith, tells)
 
-  -- where a key is not there, nothing goes
-  pub write-absent : (ps : List (ℕ × V)) (k : ℕ) → at ps k ≡ None → write ps k None ≡ ps
-  write-absent [] k gone = refl
-  write-absent (p ∷ ps) k gone = let more = write-absent ps k in grind (arith, tells)
-
-  pub fit-write : (ps : List (ℕ × V)) (k : ℕ) (o : Option V) → Fit ps → k < 2 ^ 64 → Fit (write ps k o)
-  fit-write [] k None f l = tt
-  fit-write [] k (Some v) f l = (l, tt)
-  fit-write (p ∷ ps) k o f l =
-      elim (cases-order k (p .0)) [
-        | inl e ↦ rw (le-ltb k (p .0) (omega arith), eq-eqb k (p .0) e) (fit-before k o ps (f .1) l)
-        | inr (inl h) ↦ rw (lt-ltb k (p .0) h) (fit-before k o (p ∷ ps) f l)
-        | inr (inr h) ↦ rw (le-ltb k (p .0) (omega arith), ne-eqb k (p .0) (λ e. omega arith)) (f .0, fit-write ps k o (f .1) l)
-      ]
-    where
-      fit-before : (k : ℕ) (o : Option V) (ps : List (ℕ × V)) → Fit ps → k < 2 ^ 64 → Fit (before k o ps)
-      fit-before k None ps f l = f
-      fit-before k (Some v) ps f l = (l, f)
-
   pub from-ok : (ps : List (ℕ × V)) (k i : ℕ) → Ok i ≡ place ps k → (i ≡ rank ps k) × (isSome (at ps k) ≡ true)
   from-ok ps k i e = (grind (arith, cases-bool (isSome (at ps k))), grind (arith, cases-bool (isSome (at ps k))))
 

@@ -16,7 +16,8 @@ use Rattle.std.specs.shelf.Lists.{inserted, removed}
 use Rattle.store.specs.Held.{at, from, write, From, Fit}
 use Rattle.store.proofs.Maps.{from-write}
 use Rattle.ordered.specs.Slots.{pairs-of, sorted, rank, place, is-below, is-under, value-in}
-use Rattle.ordered.proofs.Ranks.{rank-above, rank-below, at-index, at-missing, at-place, from-rank, from-past, write-new, write-there, write-out, fit-write, from-ok, from-err}
+use Rattle.ordered.proofs.Ranks.{rank-above, rank-below, at-index, at-missing, at-place, from-rank, from-past, write-new, write-there, write-out, from-ok, from-err}
+use Rattle.store.proofs.Writes.{fit-write}
 
 module _ {V : Type 0} where
   parts : (n : ℕ) (p : ℕ × V) (ss : List (Option (ℕ × V))) → sorted n (Some p ∷ ss) ≡ true →

@@ -9,7 +9,7 @@ use Rattle.std.proofs.shelf.Ways.{tells}
 use Rattle.std.specs.declared.option.Option.{Option}
 use Rattle.store.specs.Held.{write, From, Fit}
 use Rattle.store.proofs.Maps.{from-write}
-use Rattle.ordered.proofs.Ranks.{fit-write}
+use Rattle.store.proofs.Writes.{fit-write}
 use Rattle.own_store.specs.Pairs.{sorted}
 
 module _ {V : Type 0} where

@@ -5,7 +5,7 @@ use lib.ListN.{length}
 use Rattle.std.proofs.shelf.Lists.{length-take}
 use Rattle.loose.specs.Rows.{fresh}
 use Rattle.loose.proofs.Rows.{emptied}
-use Rattle.loose.proofs.Writes.{same-held}
+use Rattle.store.proofs.Writes.{same-held}
 use Rattle.loose.proofs.Loose.over.Needs as need
 
 pub ghost-result : need.ghost-result

@@ -1,7 +1,7 @@
 use mathlib.Core.Path.{refl, ap, _∙_}
 use native.Mathlib.Omega.{arith}
 use Rattle.std.specs.declared.option.Option.the-variants.{Some}
-use Rattle.ordered.proofs.Rows.{change-free}
+use Rattle.store.proofs.Writes.{change-free}
 use Rattle.own_store.specs.Pairs.{held-as}
 use Rattle.own_store.proofs.Pairs.{sorted-write}
 use Rattle.own_store.proofs.Places.{there, change-there}

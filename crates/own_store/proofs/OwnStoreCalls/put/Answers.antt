@@ -4,7 +4,7 @@ use Rattle.std.specs.Of.Vec.{vec-items}
 use Rattle.std.specs.declared.option.Option.the-variants.{Some}
 use Rattle.store.specs.Held.{write}
 use Rattle.ordered.proofs.Ranks.{from-err}
-use Rattle.ordered.proofs.Rows.{put-free}
+use Rattle.store.proofs.Writes.{put-free}
 use Rattle.own_store.specs.Pairs.{held-as}
 use Rattle.own_store.proofs.Pairs.{sorted-write}
 use Rattle.own_store.proofs.Places.{put-there}

@@ -2,7 +2,8 @@ use borrow.Author.Needs.{needs}
 use mathlib.Core.Path.{sym, ap}
 use native.Mathlib.Omega.{arith}
 use Rattle.std.specs.declared.option.Option.the-variants.{None}
-use Rattle.ordered.proofs.Ranks.{from-err, write-absent}
+use Rattle.ordered.proofs.Ranks.{from-err}
+use Rattle.store.proofs.Writes.{write-absent}
 use Rattle.own_store.specs.Pairs.{held-as}
 use Rattle.own_store.proofs.Pairs.{sorted-write}
 use Rattle.own_store.proofs.Places.{there, out-there}

@@ -8,7 +8,7 @@ use Rattle.loose.specs.Rows.{held-by}
 use Rattle.loose.specs.Slots.{gathered}
 use Rattle.loose.proofs.Gathers.{rising, has-held, alone}
 use Rattle.loose.proofs.Rows.{put-in}
-use Rattle.loose.proofs.Writes.{same-held, change-free, length-there}
+use Rattle.store.proofs.Writes.{same-held, change-free, length-there}
 use Rattle.loose.proofs.row.Row.change.Needs as need
 
 pub returns-in-Held : need.returns-in-Held

@@ -4,7 +4,7 @@ use lib.ListN.{length}
 use Rattle.store.specs.Held.{emptied as after-emptied}
 use Rattle.loose.specs.Rows.{held-by}
 use Rattle.loose.proofs.Rows.{emptied}
-use Rattle.loose.proofs.Writes.{same-held}
+use Rattle.store.proofs.Writes.{same-held}
 use Rattle.loose.proofs.row.Row.clear.Needs as need
 
 pub returns : need.returns

@@ -10,7 +10,7 @@ use Rattle.loose.specs.Rows.{held-by}
 use Rattle.loose.specs.Slots.{gathered}
 use Rattle.loose.proofs.Gathers.{rising, has-held, gathered-free, alone-free}
 use Rattle.loose.proofs.Rows.{put-in}
-use Rattle.loose.proofs.Writes.{same-held, put-full, put-free, length-write}
+use Rattle.store.proofs.Writes.{same-held, put-full, put-free, length-write}
 use Rattle.loose.proofs.row.Row.put.Needs as need
 
 pub returns-in-Held : need.returns-in-Held

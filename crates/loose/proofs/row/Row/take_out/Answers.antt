@@ -9,7 +9,7 @@ use Rattle.loose.specs.Rows.{held-by}
 use Rattle.loose.specs.Slots.{gathered}
 use Rattle.loose.proofs.Gathers.{rising, has-held}
 use Rattle.loose.proofs.Rows.{freed, not-found}
-use Rattle.loose.proofs.Writes.{same-held, write-absent, length-there}
+use Rattle.store.proofs.Writes.{same-held, write-absent, length-there}
 use Rattle.loose.proofs.row.Row.take_out.Needs as need
 
 pub close-requires : need.close-requires

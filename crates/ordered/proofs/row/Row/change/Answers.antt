@@ -9,7 +9,7 @@ use Rattle.std.specs.declared.option.Option.{Option}
 use Rattle.std.specs.declared.option.Option.the-variants.{Some}
 use Rattle.store.specs.Held.{written}
 use Rattle.ordered.specs.Rows.{front, room, held-by}
-use Rattle.ordered.proofs.Rows.{same-held, change-free}
+use Rattle.store.proofs.Writes.{same-held, change-free}
 use Rattle.ordered.proofs.Slots.{has-there, change-there, after-write}
 use Rattle.ordered.proofs.row.Row.change.Given as given
 use Rattle.ordered.proofs.row.Row.change.Needs as need

@@ -4,7 +4,7 @@ use Rattle.std.proofs.shelf.Lists.{length-take}
 use Rattle.std.specs.declared.option.Option.the-variants.{Some}
 use Rattle.store.specs.Held.{written}
 use Rattle.ordered.specs.Rows.{front, room, held-by}
-use Rattle.ordered.proofs.Rows.{same-held, put-full, put-free}
+use Rattle.store.proofs.Writes.{same-held, put-full, put-free}
 use Rattle.ordered.proofs.Slots.{length-pairs, none-there, put-there, after-write}
 use Rattle.ordered.proofs.row.Row.put.Needs as need
 

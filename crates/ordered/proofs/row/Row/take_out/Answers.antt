@@ -5,8 +5,7 @@ use Rattle.std.specs.declared.option.Option.the-variants.{None}
 use Rattle.store.specs.Held.{take-out}
 use Rattle.ordered.specs.Rows.{front, room, held-by}
 use Rattle.ordered.specs.Slots.{pairs-of}
-use Rattle.ordered.proofs.Ranks.{write-absent}
-use Rattle.ordered.proofs.Rows.{same-held}
+use Rattle.store.proofs.Writes.{same-held, write-absent}
 use Rattle.ordered.proofs.Slots.{has-there, none-there, out-there, after-write}
 use Rattle.ordered.proofs.row.Row.take_out.Needs as need
 

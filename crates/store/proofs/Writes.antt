@@ -1,4 +1,4 @@
--- Writes into rising lists of pairs, and what a store answers: for any store.
+-- Writes into rising lists of pairs, and what a store answers and holds after them.
 use mathlib.Core.List.{List, [], _∷_}
 use mathlib.Core.Bool.{true, false}
 use mathlib.Core.Logic.{inl, inr}
