@@ -1,5 +1,7 @@
 //! What a book is: the values that it keeps, how its sums change, and why it refuses.
 
+#![tactic(auto)]
+
 pub mod fault;
 pub mod phase;
 pub mod sums;

@@ -1,5 +1,7 @@
 //! Plays a day from standard input, and writes the fault, if it is refused, and then the report.
 
+#![tactic(auto)]
+
 use small_day::{DayError, tell};
 use std::io;
 use std::io::{Read, Write};

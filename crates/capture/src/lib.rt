@@ -1,5 +1,7 @@
 //! Captures: messages behind an index that says where each of them lies.
 
+#![tactic(auto)]
+
 pub mod fault;
 mod index;
 mod parts;

@@ -1,5 +1,7 @@
 //! Plays each capture of data/ as bookday does, and writes its name and what there is to tell.
 
+#![tactic(auto)]
+
 use small_day::{DayError, tell};
 use std::io::Write;
 use std::{fs, io};

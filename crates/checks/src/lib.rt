@@ -1,5 +1,7 @@
 //! Tests of the library on examples whose results follow from the rules.
 
+#![tactic(auto)]
+
 #[cfg(test)]
 mod decoding;
 #[cfg(test)]

@@ -1,5 +1,7 @@
 //! The letters that fields may hold, as plain numbers.
 
+#![tactic(auto)]
+
 ghost use Rattle.std.specs.Prelude.{◌≡◌};
 ghost use Rattle.codes.specs.Letters.{rank, events, categories, authenticities, sides, states, restrictions};
 

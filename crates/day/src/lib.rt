@@ -1,5 +1,7 @@
 //! A day: a capture is played into an engine, and the report and the line of a fault are written.
 
+#![tactic(auto)]
+
 mod playing;
 mod reporting;
 mod texts;

@@ -1,5 +1,7 @@
 //! Audits the capture on standard input, and writes both sides of each law and the verdicts.
 
+#![tactic(auto)]
+
 use audit::audit;
 use std::io;
 use std::io::{Read, Write};

@@ -1,5 +1,7 @@
 //! Decoding: from bytes of a feed to a message.
 
+#![tactic(auto)]
+
 ghost use Rattle.std.specs.Prelude.{◌≡◌, ◌+◌, ◌<◌, ◌≤◌, length, IfOk, Ok};
 ghost use Rattle.wire.specs.Judging.{row_judged};
 ghost use Rattle.wire.specs.Layout.{bytes_of};

@@ -1,5 +1,7 @@
 //! Writing: from a message to the bytes of a feed.
 
+#![tactic(auto)]
+
 ghost use Rattle.std.specs.Prelude.{◌≡◌, ◌≤◌, length, take, IfOk, Ok};
 ghost use Rattle.wire.specs.Table.{every_field};
 ghost use Rattle.wire.specs.Told.{told};

@@ -1,5 +1,7 @@
 //! Lists a capture from standard input: a line for each message, and at last how many there were, were refused, or differ when written again.
 
+#![tactic(auto)]
+
 use capture::judge;
 use listing::listing::Listing;
 use listing::{feed_named, put_index_fault};

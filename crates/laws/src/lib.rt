@@ -1,5 +1,7 @@
 //! The laws over runs: what the readings of an engine say of the messages that it accepted.
 
+#![tactic(auto)]
+
 ghost use Rattle.std.specs.Prelude.{◌≡◌, true};
 ghost use Rattle.laws.specs.Laws.{Laws};
 

@@ -1,5 +1,7 @@
 //! Captures as text: a line for each message, into a buffer that a buyer lends.
 
+#![tactic(auto)]
+
 mod feeds;
 mod listed;
 pub mod listing;

@@ -1,5 +1,7 @@
 //! Lists captures of data/ through a small buffer, page by page, and writes the feed's name and the file's before each.
 
+#![tactic(auto)]
+
 use capture::judge;
 use listing::listing::Listing;
 use listing::{feed_named, put_index_fault};

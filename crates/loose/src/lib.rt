@@ -1,5 +1,7 @@
 //! A store over lent slots that searches for a key from its home on, a slot that a hash of the key gives.
 
+#![tactic(auto)]
+
 ghost use Rattle.std.specs.Prelude.{◌≡◌, length};
 ghost use Rattle.loose.specs.Homes.{Tidy};
 ghost use Rattle.loose.specs.Rows.{held_by, fresh};

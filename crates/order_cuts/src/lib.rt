@@ -1,5 +1,7 @@
 //! What X and D do: open orders lose shares and leave. Public for `order_steps` alone, whose inside it is.
 
+#![tactic(auto)]
+
 ghost use Rattle.core.specs.Prelude.{◌≡◌};
 ghost use Rattle.book.specs.Feed.{Acts};
 ghost use Rattle.book.specs.Message.{heard};

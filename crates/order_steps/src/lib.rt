@@ -1,5 +1,7 @@
 //! What A, E, X, D and U do: orders open, lose shares, leave and give way to others.
 
+#![tactic(auto)]
+
 ghost use Rattle.std.specs.Prelude.{◌≡◌};
 ghost use Rattle.book.specs.Feed.{Acts};
 ghost use Rattle.book.specs.Message.{heard, side_of};

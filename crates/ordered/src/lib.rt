@@ -1,5 +1,7 @@
 //! A store over lent slots that keeps its pairs in rising order of their keys, at the front of the slots.
 
+#![tactic(auto)]
+
 ghost use Rattle.std.specs.Prelude.{◌≡◌, length};
 ghost use Rattle.ordered.specs.Rows.{held_by, fresh, Kept, front};
 ghost use Rattle.std.proofs.Common.{arith};

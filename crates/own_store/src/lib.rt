@@ -1,5 +1,7 @@
 //! A store over a `Vec` that it owns: its pairs in rising order of their keys, with all memory reserved at its making.
 
+#![tactic(auto)]
+
 ghost use Rattle.std.specs.Prelude.{◌≡◌, ◌<◌, ◌≤◌, true, IfOk, vec_len, vec_capacity, MatchResult};
 ghost use Rattle.ordered.specs.Rows.{fresh};
 ghost use Rattle.ordered.specs.Slots.{rank, place};

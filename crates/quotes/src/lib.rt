@@ -1,5 +1,7 @@
 //! The quote of a stock: one walk over all open orders keeps the best level of each side.
 
+#![tactic(auto)]
+
 mod levels;
 
 ghost use Rattle.std.specs.Prelude.{◌≡◌};

@@ -1,5 +1,7 @@
 //! Plays one day over ordered, loose and mixed stores and over a buyer's own, and writes what each of them tells.
 
+#![tactic(auto)]
+
 use book::value::{Order, Stock, Trade};
 use day::run;
 use loose::Loose;

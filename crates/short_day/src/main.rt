@@ -1,5 +1,7 @@
 //! Feeds a short day message by message over stores of 1, 2 and 3 places, and writes each answer and what the readings tell.
 
+#![tactic(auto)]
+
 use book::value::{Order, ShortSale, Standing, Stock, Trade, TradingState};
 use capture::{judge, message};
 use engine::core::Engine;

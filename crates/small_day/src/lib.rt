@@ -1,5 +1,7 @@
 //! A day over ordered tables of 512 places each, in memory from the heap.
 
+#![tactic(auto)]
+
 ghost use Rattle.std.specs.Prelude.{◌≡◌, ◌≤◌, length, IfOk};
 ghost use Rattle.small_day.specs.SmallDay.{Told};
 ghost use Rattle.small_day.specs.declared.DayError.TheVariants.{NoMemory as no-memory};

@@ -1,5 +1,7 @@
 //! What R, H and Y do: the directory, halts and restrictions.
 
+#![tactic(auto)]
+
 ghost use Rattle.std.specs.Prelude.{◌≡◌};
 ghost use Rattle.book.specs.Feed.{Acts};
 ghost use Rattle.book.specs.Message.{heard, eight, state_of, restriction_of};

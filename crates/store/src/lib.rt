@@ -1,5 +1,7 @@
 //! What a store is: values under 64-bit keys, each key at most once, in a number of places that never changes.
 
+#![tactic(auto)]
+
 ghost use Rattle.std.specs.Prelude.{◌≡◌, length};
 ghost use Rattle.store.specs.Held.{Held, Sound, find, from, has, puts, put, changes, change, take_out, emptied};
 

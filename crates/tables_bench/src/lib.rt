@@ -1,5 +1,7 @@
 //! The tables under steady load, exported so that a foreign program can time them.
 
+#![tactic(auto)]
+
 use loose::Loose;
 use ordered::Ordered;
 use store::Store;

@@ -1,5 +1,7 @@
 //! Numbers and lines of text in a buffer that a buyer lends.
 
+#![tactic(auto)]
+
 pub mod fault_line;
 pub mod line;
 pub mod number;

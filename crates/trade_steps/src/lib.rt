@@ -1,5 +1,7 @@
 //! What C and B do: trades are corrected and broken.
 
+#![tactic(auto)]
+
 ghost use Rattle.core.specs.Prelude.{◌≡◌};
 ghost use Rattle.book.specs.Feed.{Acts};
 ghost use Rattle.book.specs.Message.{heard};

@@ -1,5 +1,7 @@
 //! The wire form of the messages: what they are, and the questions that their fields must pass.
 
+#![tactic(auto)]
+
 pub mod fault;
 mod fields;
 mod judging;

@@ -1,5 +1,7 @@
 //! Tests of decoding and writing on bytes that were laid out by hand.
 
+#![tactic(auto)]
+
 #[cfg(test)]
 mod questions;
 #[cfg(test)]

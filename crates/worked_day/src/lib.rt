@@ -1,5 +1,7 @@
 //! A short day and a run worked out by hand, as theorems on the definitions that the engine's contracts name.
 
+#![tactic(auto)]
+
 ghost use Rattle.worked_day.specs.Run.{ARun};
 ghost use Rattle.worked_day.specs.ShortDay.{ShortDay};
 
