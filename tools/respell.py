@@ -578,6 +578,8 @@ quote-replaced quote_replaced
 volume-corrected volume_corrected
 turnover-corrected turnover_corrected
 volume-broken volume_broken
+bookIn book_in
+bookOf engine_book
 """.split("\n")
     if line
 )

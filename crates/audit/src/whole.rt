@@ -9,7 +9,7 @@ use crate::lines::{put_fault, put_stock, put_unknown};
 use book::value::{Order, Stock, Trade};
 use capture::{judge, message};
 use decode::decode;
-use engine::core::Engine;
+use engine::making::Engine;
 use ordered::Ordered;
 use std::alloc::{AllocError, Global};
 use store::Store;

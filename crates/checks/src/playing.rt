@@ -4,7 +4,7 @@ use book::fault::PlayFault;
 use book::value::{Order, Stock, Trade};
 use capture::fault::CaptureFault;
 use day::{play, put_fault, put_report};
-use engine::core::Engine;
+use engine::making::Engine;
 use ordered::Ordered;
 use std::process::Abort;
 use store::Store;

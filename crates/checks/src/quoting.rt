@@ -1,7 +1,7 @@
 //! The quote over both tables.
 
 use book::value::{Level, Order, Stock, Trade};
-use engine::core::Engine;
+use engine::making::Engine;
 use loose::Loose;
 use ordered::Ordered;
 use std::process::Abort;

@@ -2,13 +2,13 @@
 
 ghost use Rattle.std.specs.Prelude.{◌≡◌};
 ghost use Rattle.book.specs.Play.{played, at_pair};
-ghost use Rattle.engine.specs.Engine.{bookOf};
+ghost use Rattle.engine.specs.Engine.{engine_book};
 
 use book::fault::{FeedFault, PlayFault};
 use book::value::{Order, Stock, Trade};
 use capture::fault::CaptureFault;
 use capture::{judge, message};
-use engine::core::Engine;
+use engine::making::Engine;
 use store::Store;
 
 /// Feeds the messages of a capture from the pair `start` on, and answers how many it fed.
@@ -18,8 +18,8 @@ pub fn play<S: Store<Stock>, O: Store<Order>, M: Store<Trade>>(
     capture: &[u8],
     start: usize,
 ) -> Result<usize, PlayFault>
-    ensures answer { result ≡ (played (bookOf S.Holds O.Holds M.Holds engine.old) capture.now start).0 }
-    ensures after { bookOf S.Holds O.Holds M.Holds engine.new ≡ (played (bookOf S.Holds O.Holds M.Holds engine.old) capture.now start).1 }
+    ensures answer { result ≡ (played (engine_book S.Holds O.Holds M.Holds engine.old) capture.now start).0 }
+    ensures after { engine_book S.Holds O.Holds M.Holds engine.new ≡ (played (engine_book S.Holds O.Holds M.Holds engine.old) capture.now start).1 }
 {
     let count = judge(capture)?;
     if start > count {

@@ -2,11 +2,11 @@
 
 ghost use Rattle.std.specs.Prelude.{◌≡◌, ◌+◌, ◌≤◌, length, nat_le};
 ghost use Rattle.book.specs.Report.{line_of, report};
-ghost use Rattle.engine.specs.Engine.{bookOf};
+ghost use Rattle.engine.specs.Engine.{engine_book};
 ghost use Rattle.text.specs.Placed.{written};
 
 use book::value::{Order, Stock, Trade};
-use engine::core::Engine;
+use engine::making::Engine;
 use store::Store;
 use text::line::Line;
 
@@ -27,7 +27,7 @@ pub(crate) fn fits<S: Store<Stock>, O: Store<Order>, M: Store<Trade>>(
     engine: &Engine<S, O, M>,
     room: usize,
 ) -> bool
-    ensures { result ≡ nat_le (length (report (bookOf S.Holds O.Holds M.Holds engine.now))) room }
+    ensures { result ≡ nat_le (length (report (engine_book S.Holds O.Holds M.Holds engine.now))) room }
 {
     let mut left = room;
     let mut key = 0;
@@ -51,9 +51,9 @@ pub(crate) fn put_lines<S: Store<Stock>, O: Store<Order>, M: Store<Trade>>(
     buf: &mut [u8],
     start: usize,
 ) -> usize
-    requires { start + length (report (bookOf S.Holds O.Holds M.Holds engine.now)) ≤ length buf.old }
-    ensures end { result ≡ start + length (report (bookOf S.Holds O.Holds M.Holds engine.now)) }
-    ensures after { buf.new ≡ written buf.old start (report (bookOf S.Holds O.Holds M.Holds engine.now)) }
+    requires { start + length (report (engine_book S.Holds O.Holds M.Holds engine.now)) ≤ length buf.old }
+    ensures end { result ≡ start + length (report (engine_book S.Holds O.Holds M.Holds engine.now)) }
+    ensures after { buf.new ≡ written buf.old start (report (engine_book S.Holds O.Holds M.Holds engine.now)) }
 {
     let mut at = start;
     let mut key = 0;

@@ -3,13 +3,13 @@
 ghost use Rattle.std.specs.Prelude.{◌≡◌, ◌≤◌, length, None};
 ghost use Rattle.book.specs.Report.{report};
 ghost use Rattle.day.specs.Texts.{fault_text, day_text, front_text, texted, text_after};
-ghost use Rattle.engine.specs.Engine.{bookOf};
+ghost use Rattle.engine.specs.Engine.{engine_book};
 ghost use Rattle.text.specs.Placed.{written};
 
 use crate::reporting::{fits, put_lines};
 use book::fault::{BookFault, PlayFault};
 use book::value::{Order, Stock, Trade};
-use engine::core::Engine;
+use engine::making::Engine;
 use store::Store;
 use text::fault_line::{fault_line_width, put_fault_line};
 
@@ -29,8 +29,8 @@ pub fn put_report<S: Store<Stock>, O: Store<Order>, M: Store<Trade>>(
     engine: &Engine<S, O, M>,
     buf: &mut [u8],
 ) -> Result<usize, BookFault>
-    ensures answer { result ≡ texted (report (bookOf S.Holds O.Holds M.Holds engine.now)) buf.old }
-    ensures after { buf.new ≡ text_after (report (bookOf S.Holds O.Holds M.Holds engine.now)) buf.old }
+    ensures answer { result ≡ texted (report (engine_book S.Holds O.Holds M.Holds engine.now)) buf.old }
+    ensures after { buf.new ≡ text_after (report (engine_book S.Holds O.Holds M.Holds engine.now)) buf.old }
 {
     put_day(engine, None, buf)
 }
@@ -41,8 +41,8 @@ pub fn put_day<S: Store<Stock>, O: Store<Order>, M: Store<Trade>>(
     fault: Option<PlayFault>,
     buf: &mut [u8],
 ) -> Result<usize, BookFault>
-    ensures answer { result ≡ texted (day_text fault (bookOf S.Holds O.Holds M.Holds engine.now)) buf.old }
-    ensures after { buf.new ≡ text_after (day_text fault (bookOf S.Holds O.Holds M.Holds engine.now)) buf.old }
+    ensures answer { result ≡ texted (day_text fault (engine_book S.Holds O.Holds M.Holds engine.now)) buf.old }
+    ensures after { buf.new ≡ text_after (day_text fault (engine_book S.Holds O.Holds M.Holds engine.now)) buf.old }
 {
     let width = front_width(fault);
     let len = buf.len();

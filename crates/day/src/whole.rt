@@ -9,7 +9,7 @@ use crate::playing::play;
 use crate::texts::put_day;
 use book::fault::BookFault;
 use book::value::{Order, Stock, Trade};
-use engine::core::Engine;
+use engine::making::Engine;
 use store::Store;
 
 /// Plays a capture from its first pair over these stores, which are emptied first, and writes the fault's line, if it is

@@ -4,10 +4,10 @@ ghost use Rattle.std.specs.Prelude.{◌≡◌};
 ghost use Rattle.book.specs.Book.{after};
 ghost use Rattle.book.specs.Feed.{Acts, fed, count};
 ghost use Rattle.book.specs.Message.{heard};
-ghost use Rattle.engine.specs.Engine.{bookOf};
+ghost use Rattle.engine.specs.Engine.{engine_book};
 ghost use Rattle.wire.specs.Told.{told};
 
-use crate::core::Engine;
+use crate::making::Engine;
 use book::fault::{BookFault, FeedFault};
 use book::value::{Order, Stock, Trade};
 use decode::decode;
@@ -24,8 +24,8 @@ const MOST: u64 = 1_000_000_000;
 impl<S: Store<Stock>, O: Store<Order>, M: Store<Trade>> Engine<S, O, M> {
     /// Feeds the bytes of a Depth message, and answers how many messages are accepted so far.
     pub fn feed(&mut self, bytes: &[u8]) -> Result<u64, FeedFault>
-        ensures answer { result ≡ count (fed (bookOf S.Holds O.Holds M.Holds self.old) bytes.now) }
-        ensures after { bookOf S.Holds O.Holds M.Holds self.new ≡ after (bookOf S.Holds O.Holds M.Holds self.old) (fed (bookOf S.Holds O.Holds M.Holds self.old) bytes.now) }
+        ensures answer { result ≡ count (fed (engine_book S.Holds O.Holds M.Holds self.old) bytes.now) }
+        ensures after { engine_book S.Holds O.Holds M.Holds self.new ≡ after (engine_book S.Holds O.Holds M.Holds self.old) (fed (engine_book S.Holds O.Holds M.Holds self.old) bytes.now) }
     {
         let message = decode(Feed::Depth, bytes)?;
         if self.ledger.accepted >= MOST {
@@ -39,14 +39,14 @@ impl<S: Store<Stock>, O: Store<Order>, M: Store<Trade>> Engine<S, O, M> {
 
     /// S: the day moves on.
     fn event(&mut self, m: &Event) -> Result<(), BookFault>
-        ensures { Acts (bookOf S.Holds O.Holds M.Holds self.old) (heard (told (Message.Event m.now))) result (bookOf S.Holds O.Holds M.Holds self.new) }
+        ensures { Acts (engine_book S.Holds O.Holds M.Holds self.old) (heard (told (Message.Event m.now))) result (engine_book S.Holds O.Holds M.Holds self.new) }
     {
         advance(&mut self.ledger.phase, m.event)
     }
 
     /// Does what a message says. Decoding lets no message of another feed through.
     fn act<'a>(&mut self, m: &Message<'a>) -> Result<(), BookFault>
-        ensures { Acts (bookOf S.Holds O.Holds M.Holds self.old) (heard (told m.now)) result (bookOf S.Holds O.Holds M.Holds self.new) }
+        ensures { Acts (engine_book S.Holds O.Holds M.Holds self.old) (heard (told m.now)) result (engine_book S.Holds O.Holds M.Holds self.new) }
     {
         match m {
             Message::Event(m) => self.event(m),

@@ -2,6 +2,6 @@
 
 #![tactic(auto)]
 
-pub mod core;
 mod feeding;
+pub mod making;
 mod readings;

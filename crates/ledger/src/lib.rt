@@ -2,6 +2,6 @@
 
 #![tactic(auto)]
 
-pub mod core;
 pub mod day;
+pub mod keeping;
 pub mod questions;

@@ -2,16 +2,16 @@
 
 #![tactic(auto)]
 
-ghost use Rattle.core.specs.Prelude.{◌≡◌};
+ghost use Rattle.std.specs.Prelude.{◌≡◌};
 ghost use Rattle.book.specs.Feed.{Acts};
 ghost use Rattle.book.specs.Message.{heard};
 ghost use Rattle.book.specs.Orders.{order, reduce, reduces};
-ghost use Rattle.ledger.specs.Ledger.{bookIn};
+ghost use Rattle.ledger.specs.Ledger.{book_in};
 ghost use Rattle.wire.specs.Told.{told};
 
 use book::fault::BookFault;
 use book::value::{Order, Stock, Sums, Trade};
-use ledger::core::Ledger;
+use ledger::keeping::Ledger;
 use ledger::questions::{settle, unless};
 use store::Store;
 use wire::message::{Cancel, Delete, Message};
@@ -46,7 +46,7 @@ pub fn order_of<S: Store<Stock>, O: Store<Order>, M: Store<Trade>>(
     locate: u16,
     reference: u64,
 ) -> Result<Order, BookFault>
-    ensures { result ≡ order (bookIn S.Holds O.Holds M.Holds ledger.now) locate reference }
+    ensures { result ≡ order (book_in S.Holds O.Holds M.Holds ledger.now) locate reference }
 {
     let order = ledger
         .orders
@@ -61,7 +61,7 @@ pub fn cancel<S: Store<Stock>, O: Store<Order>, M: Store<Trade>>(
     ledger: &mut Ledger<S, O, M>,
     m: &Cancel,
 ) -> Result<(), BookFault>
-    ensures { Acts (bookIn S.Holds O.Holds M.Holds ledger.old) (heard (told (Message.Cancel m.now))) result (bookIn S.Holds O.Holds M.Holds ledger.new) }
+    ensures { Acts (book_in S.Holds O.Holds M.Holds ledger.old) (heard (told (Message.Cancel m.now))) result (book_in S.Holds O.Holds M.Holds ledger.new) }
 {
     let stock = ledger.known(m.head.locate)?;
     let order = order_of(ledger, m.head.locate, m.reference)?;
@@ -77,7 +77,7 @@ pub fn delete<S: Store<Stock>, O: Store<Order>, M: Store<Trade>>(
     ledger: &mut Ledger<S, O, M>,
     m: &Delete,
 ) -> Result<(), BookFault>
-    ensures { Acts (bookIn S.Holds O.Holds M.Holds ledger.old) (heard (told (Message.Delete m.now))) result (bookIn S.Holds O.Holds M.Holds ledger.new) }
+    ensures { Acts (book_in S.Holds O.Holds M.Holds ledger.old) (heard (told (Message.Delete m.now))) result (book_in S.Holds O.Holds M.Holds ledger.new) }
 {
     let stock = ledger.known(m.head.locate)?;
     let order = order_of(ledger, m.head.locate, m.reference)?;

@@ -5,12 +5,12 @@
 ghost use Rattle.std.specs.Prelude.{◌≡◌};
 ghost use Rattle.book.specs.Feed.{Acts};
 ghost use Rattle.book.specs.Message.{heard, side_of};
-ghost use Rattle.ledger.specs.Ledger.{bookIn};
+ghost use Rattle.ledger.specs.Ledger.{book_in};
 ghost use Rattle.wire.specs.Told.{told};
 
 use book::fault::BookFault;
 use book::value::{Order, Side, Standing, Stock, Trade};
-use ledger::core::Ledger;
+use ledger::keeping::Ledger;
 use ledger::questions::{owned, placed, settle, unless};
 pub use order_cuts::{cancel, delete};
 use order_cuts::{order_of, reduce, reduced};
@@ -31,7 +31,7 @@ pub fn add<'a, S: Store<Stock>, O: Store<Order>, M: Store<Trade>>(
     ledger: &mut Ledger<S, O, M>,
     m: &Add<'a>,
 ) -> Result<(), BookFault>
-    ensures { Acts (bookIn S.Holds O.Holds M.Holds ledger.old) (heard (told (Message.Add m.now))) result (bookIn S.Holds O.Holds M.Holds ledger.new) }
+    ensures { Acts (book_in S.Holds O.Holds M.Holds ledger.old) (heard (told (Message.Add m.now))) result (book_in S.Holds O.Holds M.Holds ledger.new) }
 {
     let stock = ledger.known(m.head.locate)?;
     owned(&stock, m.stock.bytes, 24)?;
@@ -56,7 +56,7 @@ pub fn execute<S: Store<Stock>, O: Store<Order>, M: Store<Trade>>(
     ledger: &mut Ledger<S, O, M>,
     m: &Execute,
 ) -> Result<(), BookFault>
-    ensures { Acts (bookIn S.Holds O.Holds M.Holds ledger.old) (heard (told (Message.Execute m.now))) result (bookIn S.Holds O.Holds M.Holds ledger.new) }
+    ensures { Acts (book_in S.Holds O.Holds M.Holds ledger.old) (heard (told (Message.Execute m.now))) result (book_in S.Holds O.Holds M.Holds ledger.new) }
 {
     let stock = ledger.known(m.head.locate)?;
     let order = order_of(ledger, m.head.locate, m.reference)?;
@@ -85,7 +85,7 @@ pub fn replace<S: Store<Stock>, O: Store<Order>, M: Store<Trade>>(
     ledger: &mut Ledger<S, O, M>,
     m: &Replace,
 ) -> Result<(), BookFault>
-    ensures { Acts (bookIn S.Holds O.Holds M.Holds ledger.old) (heard (told (Message.Replace m.now))) result (bookIn S.Holds O.Holds M.Holds ledger.new) }
+    ensures { Acts (book_in S.Holds O.Holds M.Holds ledger.old) (heard (told (Message.Replace m.now))) result (book_in S.Holds O.Holds M.Holds ledger.new) }
 {
     let stock = ledger.known(m.head.locate)?;
     let order = order_of(ledger, m.head.locate, m.original)?;

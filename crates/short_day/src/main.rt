@@ -4,7 +4,7 @@
 
 use book::value::{Order, ShortSale, Standing, Stock, Trade, TradingState};
 use capture::{judge, message};
-use engine::core::Engine;
+use engine::making::Engine;
 use ordered::Ordered;
 use std::{fs, io};
 use store::Store;

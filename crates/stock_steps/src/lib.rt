@@ -6,12 +6,12 @@ ghost use Rattle.std.specs.Prelude.{◌≡◌};
 ghost use Rattle.book.specs.Feed.{Acts};
 ghost use Rattle.book.specs.Message.{heard, eight, state_of, restriction_of};
 ghost use Rattle.book.specs.Stocks.{elsewhere, entered};
-ghost use Rattle.ledger.specs.Ledger.{bookIn};
+ghost use Rattle.ledger.specs.Ledger.{book_in};
 ghost use Rattle.wire.specs.Told.{told};
 
 use book::fault::BookFault;
 use book::value::{Listing, Order, ShortSale, Stock, Sums, Trade, TradingState};
-use ledger::core::Ledger;
+use ledger::keeping::Ledger;
 use ledger::day::due;
 use ledger::questions::{owned, placed, same, unless};
 use store::Store;
@@ -84,7 +84,7 @@ pub fn list<'a, S: Store<Stock>, O: Store<Order>, M: Store<Trade>>(
     ledger: &mut Ledger<S, O, M>,
     m: &Directory<'a>,
 ) -> Result<(), BookFault>
-    ensures { Acts (bookIn S.Holds O.Holds M.Holds ledger.old) (heard (told (Message.Directory m.now))) result (bookIn S.Holds O.Holds M.Holds ledger.new) }
+    ensures { Acts (book_in S.Holds O.Holds M.Holds ledger.old) (heard (told (Message.Directory m.now))) result (book_in S.Holds O.Holds M.Holds ledger.new) }
 {
     due(ledger.phase)?;
     let listing = Listing {
@@ -123,7 +123,7 @@ pub fn act_on_trading<'a, S: Store<Stock>, O: Store<Order>, M: Store<Trade>>(
     ledger: &mut Ledger<S, O, M>,
     m: &TradingAction<'a>,
 ) -> Result<(), BookFault>
-    ensures { Acts (bookIn S.Holds O.Holds M.Holds ledger.old) (heard (told (Message.TradingAction m.now))) result (bookIn S.Holds O.Holds M.Holds ledger.new) }
+    ensures { Acts (book_in S.Holds O.Holds M.Holds ledger.old) (heard (told (Message.TradingAction m.now))) result (book_in S.Holds O.Holds M.Holds ledger.new) }
 {
     let stock = ledger.known(m.head.locate)?;
     owned(&stock, m.stock.bytes, 11)?;
@@ -143,7 +143,7 @@ pub fn restrict<'a, S: Store<Stock>, O: Store<Order>, M: Store<Trade>>(
     ledger: &mut Ledger<S, O, M>,
     m: &Restriction<'a>,
 ) -> Result<(), BookFault>
-    ensures { Acts (bookIn S.Holds O.Holds M.Holds ledger.old) (heard (told (Message.Restriction m.now))) result (bookIn S.Holds O.Holds M.Holds ledger.new) }
+    ensures { Acts (book_in S.Holds O.Holds M.Holds ledger.old) (heard (told (Message.Restriction m.now))) result (book_in S.Holds O.Holds M.Holds ledger.new) }
 {
     let stock = ledger.known(m.head.locate)?;
     owned(&stock, m.stock.bytes, 11)?;

@@ -2,16 +2,16 @@
 
 #![tactic(auto)]
 
-ghost use Rattle.core.specs.Prelude.{◌≡◌};
+ghost use Rattle.std.specs.Prelude.{◌≡◌};
 ghost use Rattle.book.specs.Feed.{Acts};
 ghost use Rattle.book.specs.Message.{heard};
 ghost use Rattle.book.specs.Trades.{trade, is_live};
-ghost use Rattle.ledger.specs.Ledger.{bookIn};
+ghost use Rattle.ledger.specs.Ledger.{book_in};
 ghost use Rattle.wire.specs.Told.{told};
 
 use book::fault::BookFault;
 use book::value::{Order, Standing, Stock, Trade};
-use ledger::core::Ledger;
+use ledger::keeping::Ledger;
 use ledger::questions::{placed, settle, unless};
 use store::Store;
 use wire::message::{Break, Correct, Message};
@@ -31,7 +31,7 @@ fn trade_of<S: Store<Stock>, O: Store<Order>, M: Store<Trade>>(
     locate: u16,
     match_number: u64,
 ) -> Result<Trade, BookFault>
-    ensures { result ≡ trade (bookIn S.Holds O.Holds M.Holds ledger.now) locate match_number }
+    ensures { result ≡ trade (book_in S.Holds O.Holds M.Holds ledger.now) locate match_number }
 {
     let trade = ledger
         .trades
@@ -46,7 +46,7 @@ pub fn correct<S: Store<Stock>, O: Store<Order>, M: Store<Trade>>(
     ledger: &mut Ledger<S, O, M>,
     m: &Correct,
 ) -> Result<(), BookFault>
-    ensures { Acts (bookIn S.Holds O.Holds M.Holds ledger.old) (heard (told (Message.Correct m.now))) result (bookIn S.Holds O.Holds M.Holds ledger.new) }
+    ensures { Acts (book_in S.Holds O.Holds M.Holds ledger.old) (heard (told (Message.Correct m.now))) result (book_in S.Holds O.Holds M.Holds ledger.new) }
 {
     let stock = ledger.known(m.head.locate)?;
     let old = trade_of(ledger, m.head.locate, m.match_number)?;
@@ -81,7 +81,7 @@ pub fn break_trade<S: Store<Stock>, O: Store<Order>, M: Store<Trade>>(
     ledger: &mut Ledger<S, O, M>,
     m: &Break,
 ) -> Result<(), BookFault>
-    ensures { Acts (bookIn S.Holds O.Holds M.Holds ledger.old) (heard (told (Message.Break m.now))) result (bookIn S.Holds O.Holds M.Holds ledger.new) }
+    ensures { Acts (book_in S.Holds O.Holds M.Holds ledger.old) (heard (told (Message.Break m.now))) result (book_in S.Holds O.Holds M.Holds ledger.new) }
 {
     let stock = ledger.known(m.head.locate)?;
     let trade = trade_of(ledger, m.head.locate, m.match_number)?;

@@ -2,7 +2,7 @@ use Rattle.std.proofs.Common.{◌≡◌, ℕ, Result, sym, refl, ap, ◌∙◌, 
 use Rattle.std.proofs.lemmas.Result.{err_from_is_err_and}
 use Rattle.book.specs.declared.fault.FeedFault.{FeedFault}
 use Rattle.book.specs.Play.{at_pair}
-use Rattle.engine.specs.Engine.{bookOf}
+use Rattle.engine.specs.Engine.{engine_book}
 use Rattle.capture.proofs.Found.{is_message}
 use Rattle.day.proofs.Played.{goes, stops, starts}
 use Rattle.day.proofs.playing.play.Goals as goal
@@ -15,7 +15,7 @@ returns-in-err-at-pair g c =
     let is = is_message bytes _ c.in-ok-count.count k (c.in-ok-count.ensures.laid _ refl) c.loop-pair-test.true c.in-Some.ensures in
     let fed = ap (λ (r : Result ℕ FeedFault). at_pair r k) c.feed.ensures.answer in
     let stop = stops bytes _ c.in-ok-count.count c.args.start k _ _ c.loop-pair.auto.pair c.loop-pair-test.true is c.feed.ensures.after _ (c.in-err-at-pair.ensures ∙ fed) in
-    let start = starts (bookOf g.S.Holds g.O.Holds g.M.Holds c.args.engine.now) bytes c.args.start c.in-ok-count.count c.in-ok-count.ensures.verdict c.if-start-count.false in
+    let start = starts (engine_book g.S.Holds g.O.Holds g.M.Holds c.args.engine.now) bytes c.args.start c.in-ok-count.count c.in-ok-count.ensures.verdict c.if-start-count.false in
     let all = start ∙ sym c.loop-pair.invariant ∙ stop in
     record { answer = rw (p.1, p.2) (sym (ap (λ x. x.0) all)); after = sym (ap (λ x. x.1) all) }
 

@@ -2,7 +2,7 @@ use Rattle.std.proofs.Common.{◌≡◌, ℕ, suc, ◌+◌, ◌-◌, ◌<◌, sy
 use Rattle.store.specs.Held.{Held, find}
 use Rattle.book.specs.declared.value.Trade.{Trade}
 use Rattle.book.specs.Trace.{walk, look}
-use Rattle.engine.proofs.core.Engine.followed.Goals as goal
+use Rattle.engine.proofs.making.Engine.followed.Goals as goal
 
 -- one look, and the rest of the walk
 walk_more : (h : Held Trade) (count n k : ℕ) → k < count → walk h (count - k) n k ≡ look n k (find h n) (λ m. walk h (count - (k + 1)) m (k + 1))

@@ -2,7 +2,7 @@
 
 ghost use Rattle.std.specs.Prelude.{◌≡◌};
 ghost use Rattle.book.specs.Book.{known};
-ghost use Rattle.ledger.specs.Ledger.{bookIn};
+ghost use Rattle.ledger.specs.Ledger.{book_in};
 
 use crate::day::due;
 use book::fault::BookFault;
@@ -23,7 +23,7 @@ pub struct Ledger<S, O, M> {
 impl<S: Store<Stock>, O: Store<Order>, M: Store<Trade>> Ledger<S, O, M> {
     /// The stock that a message is about, if such a message is due.
     pub fn known(&self, locate: u16) -> Result<Stock, BookFault>
-        ensures { result ≡ known (bookIn S.Holds O.Holds M.Holds self.now) locate }
+        ensures { result ≡ known (book_in S.Holds O.Holds M.Holds self.now) locate }
     {
         due(self.phase)?;
         self.stocks

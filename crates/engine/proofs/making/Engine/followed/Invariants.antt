@@ -1,6 +1,6 @@
 use Rattle.std.proofs.Common.{◌≡◌, ◌-◌, ◌≤◌}
 use Rattle.book.specs.Trace.{walk}
-use Rattle.engine.proofs.core.Engine.followed.Given as goal
+use Rattle.engine.proofs.making.Engine.followed.Given as goal
 
 -- what is left of the walk gives what the whole does
 abbrev pub invariant-loop-steps : goal.invariant-loop-steps

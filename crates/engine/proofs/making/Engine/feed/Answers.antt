@@ -1,24 +1,24 @@
 use Rattle.std.proofs.Common.{◌≡◌, sym, refl, ◌∙◌, arith}
 use Rattle.std.proofs.lemmas.Result.{err_from_is_err_and}
 use Rattle.wire.specs.Told.{told}
-use Rattle.engine.specs.Engine.{bookOf}
+use Rattle.engine.specs.Engine.{engine_book}
 use Rattle.engine.proofs.Fed.{too_many, refused, taken}
-use Rattle.engine.proofs.core.Engine.feed.Goals as goal
+use Rattle.engine.proofs.making.Engine.feed.Goals as goal
 
 pub returns-then-self-ge-MOST : goal.returns-then-self-ge-MOST
 returns-then-self-ge-MOST g c =
-    let r = too_many (bookOf g.S.Holds g.O.Holds g.M.Holds c.args.self.now) c.args.bytes.now (told c.in-ok-message.message) c.in-ok-message.ensures.answer c.if-self-ge-MOST.true in
+    let r = too_many (engine_book g.S.Holds g.O.Holds g.M.Holds c.args.self.now) c.args.bytes.now (told c.in-ok-message.message) c.in-ok-message.ensures.answer c.if-self-ge-MOST.true in
     record { answer = r.0; after = r.1 }
 
 pub returns-in-err-act : goal.returns-in-err-act
 returns-in-err-act g c =
     let p = err_from_is_err_and c.from-residual-in-err-act.result c.from-residual-in-err-act.ensures.1 in
-    let r = refused (bookOf g.S.Holds g.O.Holds g.M.Holds c.args.self.now) c.args.bytes.now (told c.in-ok-message.message) c.in-ok-message.ensures.answer
+    let r = refused (engine_book g.S.Holds g.O.Holds g.M.Holds c.args.self.now) c.args.bytes.now (told c.in-ok-message.message) c.in-ok-message.ensures.answer
     _ _ c.if-self-ge-MOST.false c.in-err-act.ensures.0 c.in-err-act.ensures.1 in
     record { answer = rw (p.1, p.2) r.0; after = r.1 }
 
 pub returns : goal.returns
 returns g c =
-    let r = taken (bookOf g.S.Holds g.O.Holds g.M.Holds c.args.self.now) c.args.bytes.now (told c.in-ok-message.message) c.in-ok-message.ensures.answer
+    let r = taken (engine_book g.S.Holds g.O.Holds g.M.Holds c.args.self.now) c.args.bytes.now (told c.in-ok-message.message) c.in-ok-message.ensures.answer
     _ c.if-self-ge-MOST.false c.in-ok-act.ensures.0 c.in-ok-act.ensures.1 in
     record { answer = r.0; after = r.1 }

@@ -2,11 +2,11 @@
 
 ghost use Rattle.std.specs.Prelude.{◌≡◌};
 ghost use Rattle.book.specs.Book.{fresh};
-ghost use Rattle.engine.specs.Engine.{bookOf};
+ghost use Rattle.engine.specs.Engine.{engine_book};
 
 use book::phase::Phase;
 use book::value::{Order, Stock, Trade};
-use ledger::core::Ledger;
+use ledger::keeping::Ledger;
 use store::Store;
 
 /// A book over three stores: stocks under their locates, open orders under their references, trades under their match numbers.
@@ -18,7 +18,7 @@ pub struct Engine<S, O, M> {
 impl<S: Store<Stock>, O: Store<Order>, M: Store<Trade>> Engine<S, O, M> {
     /// An engine over these stores, which it empties.
     pub fn new(mut stocks: S, mut orders: O, mut trades: M) -> Engine<S, O, M>
-        ensures { bookOf S.Holds O.Holds M.Holds result ≡ fresh (S.Holds.held stocks).places (O.Holds.held orders).places (M.Holds.held trades).places }
+        ensures { engine_book S.Holds O.Holds M.Holds result ≡ fresh (S.Holds.held stocks).places (O.Holds.held orders).places (M.Holds.held trades).places }
     {
         stocks.clear();
         orders.clear();
