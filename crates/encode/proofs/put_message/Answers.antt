@@ -10,7 +10,7 @@ pub returns-in-Directory : goal.returns-in-Directory
 returns-in-Directory c = put_as (ap told c.in-Directory.is) c.directory.ensures
 
 pub returns-in-TradingAction : goal.returns-in-TradingAction
-returns-in-TradingAction c = put_as (ap told c.in-TradingAction.is) c.trading-action.ensures
+returns-in-TradingAction c = put_as (ap told c.in-TradingAction.is) c.trading_action.ensures
 
 pub returns-in-Restriction : goal.returns-in-Restriction
 returns-in-Restriction c = put_as (ap told c.in-Restriction.is) c.restriction.ensures

@@ -7,21 +7,21 @@ use Rattle.encode.proofs.Answering.{writes}
 use Rattle.encode.proofs.Passing.{passed_narrow}
 use Rattle.encode.proofs.write.Goals as goal
 
-pub put-message-requires : goal.put-message-requires
-put-message-requires c = (omega arith, passed_narrow c.args.message.now (sym c.in-ok-judge.ensures))
+pub put_message-requires : goal.put_message-requires
+put_message-requires c = (omega arith, passed_narrow c.args.message.now (sym c.in_ok-judge.ensures))
 
 pub returns : goal.returns
 returns c =
     let m = c.args.message.now in
     let n : c.size-size.result ≡ (told m).0.size = c.size-size.ensures in
-    let on : (told m).0.on c.args.feed ≡ true = sym c.if-not-is-in.ensures in
-    let passed = sym c.in-ok-judge.ensures in
+    let on : (told m).0.on c.args.feed ≡ true = sym c.if-not-is_in.ensures in
+    let passed = sym c.in_ok-judge.ensures in
     let narrow = passed_narrow m passed in
-    let laid = c.put-message.ensures.bytes ∙ in_front c.args.feed m on passed c.put-message.ensures.widths narrow c.args.buffer.now in
+    let laid = c.put_message.ensures.bytes ∙ in_front c.args.feed m on passed c.put_message.ensures.widths narrow c.args.buffer.now in
     record {
       answer = writes c.args.feed (told m) (length c.args.buffer.now) c.size-size.result on passed n (omega arith);
       bytes = laid ∙ ap (λ (k : ℕ). bytes_of (told m) ++ drop k c.args.buffer.now) (sym n);
       again = ap (λ (b : List ℕ). decoding c.args.feed (take c.size-size.result b)) laid
-          ∙ again c.args.feed m on passed c.put-message.ensures.widths narrow
+          ∙ again c.args.feed m on passed c.put_message.ensures.widths narrow
           c.size-size.result (drop (told m).0.size c.args.buffer.now) n;
     }

@@ -9,9 +9,9 @@ use Rattle.order_steps.proofs.replace.Goals as goal
 pub returns : goal.returns
 returns g c =
     let h : Held Order = g.O.Holds.held c.args.ledger.now.orders in
-    let f : find h c.args.m.now.original ≡ Some c.in-ok-order.order = grind (arith, c.in-ok-order.ensures) in
-    let n : has h c.args.m.now.new_reference ≡ false = grind (arith, c.in-ok-unless.ensures, c.contains.ensures) in
-    let o : Order = c.in-ok-order.order in
+    let f : find h c.args.m.now.original ≡ Some c.in_ok-order.order = grind (arith, c.in_ok-order.ensures) in
+    let n : has h c.args.m.now.new_reference ≡ false = grind (arith, c.in_ok-unless.ensures, c.contains.ensures) in
+    let o : Order = c.in_ok-order.order in
     let v : Order = record { locate = o.locate; side = o.side; price = c.args.m.now.price; shares = c.args.m.now.shares } in
     let e = put_after_take_out h c.args.m.now.original c.args.m.now.new_reference v o (g.O.Holds.sound c.args.ledger.now.orders) f n in
     search rules

@@ -4,17 +4,17 @@ use Rattle.day.proofs.Fronts.{ends_within}
 use Rattle.small_day.specs.SmallDay.{Told, text}
 use Rattle.small_day.proofs.tell.Goals as goal
 
-pub returns-in-err-stocks : goal.returns-in-err-stocks
-returns-in-err-stocks c =
-    let p = err_from_is_err_and c.from-residual.result c.from-residual.ensures.1 in rw (p.1, p.2) (record { told = refl; within = tt })
+pub returns-in_err-stocks : goal.returns-in_err-stocks
+returns-in_err-stocks c =
+    let p = err_from_is_err_and c.from_residual.result c.from_residual.ensures.1 in rw (p.1, p.2) (record { told = refl; within = tt })
 
-pub returns-in-err-orders : goal.returns-in-err-orders
-returns-in-err-orders c =
-    let p = err_from_is_err_and c.from-residual-in-err-orders.result c.from-residual-in-err-orders.ensures.1 in rw (p.1, p.2) (record { told = refl; within = tt })
+pub returns-in_err-orders : goal.returns-in_err-orders
+returns-in_err-orders c =
+    let p = err_from_is_err_and c.from_residual-in_err-orders.result c.from_residual-in_err-orders.ensures.1 in rw (p.1, p.2) (record { told = refl; within = tt })
 
-pub returns-in-err-trades : goal.returns-in-err-trades
-returns-in-err-trades c =
-    let p = err_from_is_err_and c.from-residual-in-err-trades.result c.from-residual-in-err-trades.ensures.1 in rw (p.1, p.2) (record { told = refl; within = tt })
+pub returns-in_err-trades : goal.returns-in_err-trades
+returns-in_err-trades c =
+    let p = err_from_is_err_and c.from_residual-in_err-trades.result c.from_residual-in_err-trades.ensures.1 in rw (p.1, p.2) (record { told = refl; within = tt })
 
 pub returns-in-Ok : goal.returns-in-Ok
 returns-in-Ok c =

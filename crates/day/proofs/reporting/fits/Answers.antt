@@ -10,24 +10,24 @@ loop-locate-init g c = ap (λ t. leb (length t) c.args.room) (all_left (g.S.Hold
 pub returns-then-left-needed : goal.returns-then-left-needed
 returns-then-left-needed g c =
     let s = c.args.engine.now.ledger.stocks in
-    let is = c.width-needed.ensures.value ∙ ap (λ (l : Line). length (line l)) c.line-of.ensures in
+    let is = c.width-needed.ensures.value ∙ ap (λ (l : Line). length (line l)) c.line_of.ensures in
     too_long (g.S.Holds.held s) (g.S.Holds.sound s) c.loop-locate.key (c.in-Some.locate, c.in-Some.stock) c.in-Some.ensures
     c.loop-locate.left c.width-needed.result c.args.room is c.loop-locate.invariant c.if-left-needed.true
 
-pub returns-in-default-checked-add : goal.returns-in-default-checked-add
-returns-in-default-checked-add g c =
+pub returns-in_default-checked_add : goal.returns-in_default-checked_add
+returns-in_default-checked_add g c =
     let s = c.args.engine.now.ledger.stocks in
-    let is = c.width-needed.ensures.value ∙ ap (λ (l : Line). length (line l)) c.line-of.ensures in
+    let is = c.width-needed.ensures.value ∙ ap (λ (l : Line). length (line l)) c.line_of.ensures in
     fits_last (g.S.Holds.held s) (g.S.Holds.sound s) c.loop-locate.key (c.in-Some.locate, c.in-Some.stock) c.in-Some.ensures
-    c.loop-locate.left c.width-needed.result c.args.room is c.loop-locate.invariant c.if-left-needed.false (omega (arith, c.in-default-checked-add.ensures))
+    c.loop-locate.left c.width-needed.result c.args.room is c.loop-locate.invariant c.if-left-needed.false (omega (arith, c.in_default-checked_add.ensures))
 
 pub loop-locate-smaller : goal.loop-locate-smaller
 loop-locate-smaller g c =
-    fewer (g.S.Holds.held c.args.engine.now.ledger.stocks) (g.S.Holds.sound c.args.engine.now.ledger.stocks) c.loop-locate.key (c.in-Some.locate, c.in-Some.stock) c.in-Some.ensures _ c.in-Some-checked-add.ensures.1
+    fewer (g.S.Holds.held c.args.engine.now.ledger.stocks) (g.S.Holds.sound c.args.engine.now.ledger.stocks) c.loop-locate.key (c.in-Some.locate, c.in-Some.stock) c.in-Some.ensures _ c.in-Some-checked_add.ensures.1
 
 pub loop-locate-preserved : goal.loop-locate-preserved
 loop-locate-preserved g c =
     let s = c.args.engine.now.ledger.stocks in
-    let is = c.width-needed.ensures.value ∙ ap (λ (l : Line). length (line l)) c.line-of.ensures in
+    let is = c.width-needed.ensures.value ∙ ap (λ (l : Line). length (line l)) c.line_of.ensures in
     fits_more (g.S.Holds.held s) (g.S.Holds.sound s) c.loop-locate.key (c.in-Some.locate, c.in-Some.stock) c.in-Some.ensures
-    c.loop-locate.left c.width-needed.result c.args.room is c.loop-locate.invariant c.if-left-needed.false _ c.in-Some-checked-add.ensures.1
+    c.loop-locate.left c.width-needed.result c.args.room is c.loop-locate.invariant c.if-left-needed.false _ c.in-Some-checked_add.ensures.1

@@ -5,7 +5,7 @@ use Rattle.lines.proofs.pieces.number.Goals as goal
 
 pub unreachable-requires : goal.unreachable-requires
 unreachable-requires c =
-    omega (arith, length-decimal-le 20 c.args.n (omega arith) (omega arith) (omega arith), c.in-default.ensures.0)
+    omega (arith, length-decimal-le 20 c.args.n (omega arith) (omega arith) (omega arith), c.in_default.ensures.0)
 
 pub returns : goal.returns
 returns c =

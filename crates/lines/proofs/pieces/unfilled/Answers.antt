@@ -9,6 +9,6 @@ pub returns : goal.returns
 returns c =
     let s = c.args.bytes.now in
     let e : take c.min.result s ≡ take 8 s = ap (λ (k : ℕ). take k s) c.min.ensures ∙ take_min 8 s in
-    let v = c.symbol-len.ensures.front ∙ ap unfilled e in
+    let v = c.symbol_len.ensures.front ∙ ap unfilled e in
     let short : length (symbol_text s) ≤ 8 = omega (arith, unfilled_le (take 8 s), length-take 8 s) in
     record { value = v; bound = omega (arith, ap length v) }

@@ -3,14 +3,14 @@ use Rattle.listing.specs.Paging.{total, page_lines}
 use Rattle.listing.proofs.Agrees.{none_differs}
 use Rattle.listing.proofs.Paging.{at_most_one, is_message, never_none, going_more, going_all, going_full, going_stands}
 use Rattle.listing.proofs.page.put_page.Goals as goal
-use Rattle.listing.proofs.page.put_page.Goals.{else-loop-pair-test, then-loop-pair-test+in-Some+in-default-put-line}
+use Rattle.listing.proofs.page.put_page.Goals.{else-loop-pair-test, then-loop-pair-test+in-Some+in-default-put_line}
 
 pub unreachable-requires : goal.unreachable-requires
-unreachable-requires c = never_none c.args.capture.now c.loop-pair.pair (omega arith) c.in-default.ensures
+unreachable-requires c = never_none c.args.capture.now c.loop-pair.pair (omega arith) c.in_default.ensures
 
-pub overflow-add-differ : goal.overflow-add-differ
-overflow-add-differ c =
-    let one = at_most_one _ _ c.one-if-different-differ.ensures in
+pub overflow_add-differ : goal.overflow_add-differ
+overflow_add-differ c =
+    let one = at_most_one _ _ c.one_if_different-differ.ensures in
     let few = c.loop-pair.invariant.few in
     let within = c.loop-pair.invariant.upto in
     omega arith
@@ -22,7 +22,7 @@ loop-pair-preserved c =
     let l = c.in-Ok.ensures in
     let b = l.bound in
     let r = l.lined.0 in
-    going_more _ _ _ _ _ _ _ _ _ c.loop-pair.invariant _ _ _ _ _ _ more (omega arith) is c.decode-decoded.ensures.answer l.lined.1 l.lined.2 c.one-if-refused-refused.ensures c.one-if-different-differ.ensures (omega arith)
+    going_more _ _ _ _ _ _ _ _ _ c.loop-pair.invariant _ _ _ _ _ _ more (omega arith) is c.decode-decoded.ensures.answer l.lined.1 l.lined.2 c.one_if_refused-refused.ensures c.one_if_different-differ.ensures (omega arith)
 
 pub returns : goal.returns
 returns c =
@@ -33,13 +33,13 @@ returns c =
     let lines : c.loop-pair.pair - c.args.start ≡ page_lines f bytes c.args.start (length buf) =
     elim c.loop-pair-test.branch [
       | else-loop-pair-test w ↦ going_all f bytes c.args.start buf _ _ _ _ _ inv (omega (arith, w.loop-pair-test.false))
-      | then-loop-pair-test+in-Some+in-default-put-line w ↦
-          going_full f bytes c.args.start buf _ _ _ _ _ inv (omega (arith, w.loop-pair-test.true)) (let h = w.in-default-put-line.ensures.lined.0 in omega arith)
+      | then-loop-pair-test+in-Some+in-default-put_line w ↦
+          going_full f bytes c.args.start buf _ _ _ _ _ inv (omega (arith, w.loop-pair-test.true)) (let h = w.in_default-put_line.ensures.lined.0 in omega arith)
     ] in
     let same : c.loop-pair-test.buf ≡ c.loop-pair.buf =
     elim c.loop-pair-test.branch [
       | else-loop-pair-test w ↦ w.buf-is
-      | then-loop-pair-test+in-Some+in-default-put-line w ↦ w.buf-is ∙ w.in-default-put-line.ensures.lined.1
+      | then-loop-pair-test+in-Some+in-default-put_line w ↦ w.buf-is ∙ w.in_default-put_line.ensures.lined.1
     ] in
     let all = going_stands f bytes c.args.start buf _ _ _ _ _ inv _ lines in
     let from = inv.from in

@@ -6,14 +6,14 @@ use Rattle.listing.proofs.WrittenAgain.{writing_fits, gives_is}
 use Rattle.listing.proofs.rewriting.rewritten.Goals as goal
 use Rattle.std.proofs.lemmas.Bool.Decides.{Decides-eqb}
 
-pub slice-bounds-buffer-end : goal.slice-bounds-buffer-end
-slice-bounds-buffer-end c =
+pub slice_bounds-buffer-end : goal.slice_bounds-buffer-end
+slice_bounds-buffer-end c =
     let few = writing_fits c.args.feed (told c.args.message.now) 43 c.in-Ok.len c.in-Ok.ensures.answer in
     let long = c.write.auto.buffer in
     omega arith
 
-pub slice-bounds-eq-end : goal.slice-bounds-eq-end
-slice-bounds-eq-end c =
+pub slice_bounds-eq-end : goal.slice_bounds-eq-end
+slice_bounds-eq-end c =
     let few = writing_fits c.args.feed (told c.args.message.now) 43 c.in-Ok.len c.in-Ok.ensures.answer in
     let long = c.write.auto.buffer in
     let within : c.in-Ok.len ≤ length c.write.new.buffer = omega arith in

@@ -5,8 +5,8 @@ use Rattle.loose.proofs.Rows.{emptied}
 use Rattle.store.proofs.Writes.{same_held}
 use Rattle.loose.proofs.Loose.over.Goals as goal
 
-pub invariant-of-result : goal.invariant-of-result
-invariant-of-result g c =
+pub invariant_of-result : goal.invariant_of-result
+invariant_of-result g c =
     let none = emptied c.wipe.new.slots c.wipe.ensures (omega (arith, c.wipe.auto.slots, length-take c.min-n.result c.args.slots.now)) in
     (none.0, (ap length (sym none.1), tt))
 

@@ -20,5 +20,5 @@ returns g c =
     let inv = c.loop-from.invariant in
     record {
       same = inv.1;
-      tidy = (inv.0.0, inv.0.1, settled_all (length ss) ss c.loop-from.hole refl inv.0.4 c.in-default.ensures);
+      tidy = (inv.0.0, inv.0.1, settled_all (length ss) ss c.loop-from.hole refl inv.0.4 c.in_default.ensures);
     }

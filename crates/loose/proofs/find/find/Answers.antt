@@ -3,17 +3,17 @@ use Rattle.loose.specs.Gathers.{gathered_full}
 use Rattle.loose.proofs.Homes.{absent, all_held, held_here, free_here}
 use Rattle.loose.proofs.find.find.Goals as goal
 
-pub returns-then-is-some : goal.returns-then-is-some
-returns-then-is-some g c =
+pub returns-then-is_some : goal.returns-then-is_some
+returns-then-is_some g c =
     let ss = c.args.slots.now in
     let at = c.in-Some.ensures in
-    (held_here ss c.args.key c.in-Some.at c.index-slots-at.result at.0 at.1 c.index-slots-at.is c.if-is-some.ensures, at)
+    (held_here ss c.args.key c.in-Some.at c.index-slots-at.result at.0 at.1 c.index-slots-at.is c.if-is_some.ensures, at)
 
-pub returns-else-is-some : goal.returns-else-is-some
-returns-else-is-some g c =
+pub returns-else-is_some : goal.returns-else-is_some
+returns-else-is_some g c =
     let ss = c.args.slots.now in
     let at = c.in-Some.ensures in
-    let free = free_here ss c.in-Some.at c.index-slots-at.result at.0 c.index-slots-at.is c.if-is-some.ensures in
+    let free = free_here ss c.in-Some.at c.index-slots-at.result at.0 c.index-slots-at.is c.if-is_some.ensures in
     (absent (length ss) ss c.args.key c.in-Some.at refl c.requires.2 at free, free, at)
 
 pub returns-in-None : goal.returns-in-None

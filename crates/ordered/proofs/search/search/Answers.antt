@@ -10,11 +10,11 @@ loop-low-init g c =
     let m = rank_le (pairs_of c.args.held.now) c.args.key in
     (omega arith, omega arith, omega arith)
 
-pub loop-low-preserved-then-is-below : goal.loop-low-preserved-then-is-below
-loop-low-preserved-then-is-below g c =
-    let past = above c.args.held.now c.requires c.args.key _ c.index-held-mid.result (omega arith) c.index-held-mid.is (sym c.is-below.ensures ∙ c.if-is-below.true) in
+pub loop-low-preserved-then-is_below : goal.loop-low-preserved-then-is_below
+loop-low-preserved-then-is_below g c =
+    let past = above c.args.held.now c.requires c.args.key _ c.index-held-mid.result (omega arith) c.index-held-mid.is (sym c.is_below.ensures ∙ c.if-is_below.true) in
     (omega arith, omega arith, omega arith)
 
 pub loop-low-preserved : goal.loop-low-preserved
 loop-low-preserved g c =
-    (omega arith, omega arith, not_above c.args.held.now c.requires c.args.key _ c.index-held-mid.result (omega arith) c.index-held-mid.is (sym c.is-below.ensures ∙ c.if-is-below.false))
+    (omega arith, omega arith, not_above c.args.held.now c.requires c.args.key _ c.index-held-mid.result (omega arith) c.index-held-mid.is (sym c.is_below.ensures ∙ c.if-is_below.false))

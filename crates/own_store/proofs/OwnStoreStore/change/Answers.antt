@@ -5,8 +5,8 @@ use Rattle.own_store.specs.PairsLemmas.{sorted_write}
 use Rattle.own_store.proofs.Places.{there, change_there}
 use Rattle.own_store.proofs.OwnStoreStore.change.Goals as goal
 
-pub invariant-of-self : goal.invariant-of-self
-invariant-of-self g c =
+pub invariant_of-self : goal.invariant_of-self
+invariant_of-self g c =
     let s = c.args.self.now in
     let new = change_there s.pairs.items s.rises c.args.key _ _ c.args.value c.in-Ok.ensures.value refl in
     (sorted_write s.pairs.items _ c.args.key (Some c.args.value) s.rises (omega arith) new, (s.fits, tt))

@@ -15,8 +15,8 @@ new g c =
     let s = c.args.self.now in
     put_there s.pairs.items s.rises c.args.key _ _ c.args.value _ c.in-Err.ensures.value (c.insert.ensures.succeeds (omega arith)) c.insert.ensures.items
 
-pub invariant-of-self : goal.invariant-of-self
-invariant-of-self g c =
+pub invariant_of-self : goal.invariant_of-self
+invariant_of-self g c =
     let s = c.args.self.now in
     let longer = rw (c.insert.ensures.succeeds (omega arith)) at c.insert.ensures.len in
     (sorted_write s.pairs.items _ c.args.key (Some c.args.value) s.rises (omega arith) (new g c), ((omega arith, omega arith, omega arith), tt))

@@ -6,8 +6,8 @@ use Rattle.own_store.specs.PairsLemmas.{sorted_write}
 use Rattle.own_store.proofs.Places.{there, out_there}
 use Rattle.own_store.proofs.OwnStoreStore.take_out.Goals as goal
 
-pub invariant-of-self : goal.invariant-of-self
-invariant-of-self g c =
+pub invariant_of-self : goal.invariant_of-self
+invariant_of-self g c =
     let s = c.args.self.now in
     let new = out_there s.pairs.items s.rises c.args.key _ _ c.in-Ok.ensures.value c.remove.ensures.items in
     (sorted_write s.pairs.items _ c.args.key None s.rises (omega arith) new, ((omega arith, omega arith, omega arith), tt))

@@ -3,8 +3,8 @@ use Rattle.std.proofs.lemmas.Fmt.{length-decimal-le, decimal_nonempty}
 use Rattle.text.proofs.Digits.{length-decimal_step, length-decimal_digit}
 use Rattle.text.proofs.number.width.Goals as goal
 
-pub overflow-add-digits : goal.overflow-add-digits
-overflow-add-digits c = omega (arith, length-decimal-le 20 c.args.n (omega arith) (omega arith) (omega arith), decimal_nonempty c.loop-rest.rest (omega arith))
+pub overflow_add-digits : goal.overflow_add-digits
+overflow_add-digits c = omega (arith, length-decimal-le 20 c.args.n (omega arith) (omega arith) (omega arith), decimal_nonempty c.loop-rest.rest (omega arith))
 
 pub loop-rest-preserved : goal.loop-rest-preserved
 loop-rest-preserved c = (omega (arith, length-decimal_step c.loop-rest.rest (omega arith) (omega arith)), omega arith)

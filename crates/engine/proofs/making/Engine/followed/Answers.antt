@@ -10,11 +10,11 @@ walk_more h count n k lt =
     let e : count - k ≡ suc (count - (k + 1)) = omega arith in
     rw e
 
-pub returns-in-err-next : goal.returns-in-err-next
-returns-in-err-next g c = search (rules, walk_more)
+pub returns-in_err-next : goal.returns-in_err-next
+returns-in_err-next g c = search (rules, walk_more)
 
-pub returns-in-default : goal.returns-in-default
-returns-in-default g c = search (rules, walk_more)
+pub returns-in_default : goal.returns-in_default
+returns-in_default g c = search (rules, walk_more)
 
 pub loop-steps-preserved : goal.loop-steps-preserved
 loop-steps-preserved g c = search (rules, walk_more)

@@ -8,7 +8,7 @@ pub returns : goal.returns
 returns g c =
     let b = engine_book g.S.Holds g.O.Holds g.M.Holds c.args.self.now in
     record {
-      answer = c.best-of.ensures.answer;
-      relation = c.best-of.ensures.relation;
-      laws = λ m e. subst (QuoteLaws m c.args.locate) (sym c.best-of.ensures.answer) (quote_laws_of b c.args.locate m e);
+      answer = c.best_of.ensures.answer;
+      relation = c.best_of.ensures.relation;
+      laws = λ m e. subst (QuoteLaws m c.args.locate) (sym c.best_of.ensures.answer) (quote_laws_of b c.args.locate m e);
     }

@@ -8,6 +8,6 @@ pub returns : goal.returns
 returns g c =
     let b = engine_book g.S.Holds g.O.Holds g.M.Holds c.args.self.now in
     record {
-      value = c.known-stock.ensures;
-      laws = λ m e. subst (StockLaws m c.args.locate) (sym c.known-stock.ensures) (stock_laws_of b c.args.locate m e);
+      value = c.known_stock.ensures;
+      laws = λ m e. subst (StockLaws m c.args.locate) (sym c.known_stock.ensures) (stock_laws_of b c.args.locate m e);
     }

@@ -9,5 +9,5 @@ returns g c =
     let b = engine_book g.S.Holds g.O.Holds g.M.Holds c.args.self.now in
     record {
       value = c.followed.ensures;
-      laws = λ m e. subst (TraceLaws m c.args.match-number) (sym c.followed.ensures) (trace_laws_of b c.args.match-number m e);
+      laws = λ m e. subst (TraceLaws m c.args.match_number) (sym c.followed.ensures) (trace_laws_of b c.args.match_number m e);
     }

@@ -11,6 +11,6 @@ returns c =
     let same : summary l.next l.refused l.differ ≡ summary l.next (refusals l.feed bytes l.next) (differences l.feed bytes l.next) =
     ap (λ (m : ℕ). summary l.next m l.differ) l.counted ∙ ap (summary l.next (refusals l.feed bytes l.next)) l.compared in
     record {
-      lined = subst (λ (t : List ℕ). Lined c.args.buf.now 0 t c.put-summary.new.buf c.put-summary.result) same c.put-summary.ensures;
+      lined = subst (λ (t : List ℕ). Lined c.args.buf.now 0 t c.put_summary.new.buf c.put_summary.result) same c.put_summary.ensures;
       agree = sym l.compared ∙ l.agree;
     }

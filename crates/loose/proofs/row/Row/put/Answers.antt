@@ -14,8 +14,8 @@ returns-in-Held g c =
     let has = has_held c.args.self.now.slots.now _ c.args.key is.1.0 is.0 in
     search rules
 
-pub overflow-add-self : goal.overflow-add-self
-overflow-add-self g c =
+pub overflow_add-self : goal.overflow_add-self
+overflow_add-self g c =
     let row = c.args.self.now in
     let is = c.in-Free.ensures in
     let room : row.len + 1 ≤ 65536 = omega (arith, gathered_free row.slots.now _ is.2.0 is.1, c.requires.1, c.requires.0.0) in

@@ -13,8 +13,8 @@ close-requires g c =
     let is = c.in-Held.ensures in
     (freed c.args.self.now.slots.now c.args.key _ c.requires.0 (omega arith) is.1.0 is.0).0
 
-pub overflow-sub-self : goal.overflow-sub-self
-overflow-sub-self g c =
+pub overflow_sub-self : goal.overflow_sub-self
+overflow_sub-self g c =
     let ss = c.args.self.now.slots.now in
     let is = c.in-Held.ensures in
     let has = has_held ss _ c.args.key is.1.0 is.0 in
@@ -34,10 +34,10 @@ returns-in-Held g c =
       kept = (c.close.ensures.tidy, omega (arith, ap length pairs, c.requires.1));
     }
 
-pub returns-in-default : goal.returns-in-default
-returns-in-default g c =
+pub returns-in_default : goal.returns-in_default
+returns-in_default g c =
     let row = c.args.self.now in
-    let gone = not_found row.slots.now c.args.key c.find.result c.find.ensures c.in-default.not-Held in
+    let gone = not_found row.slots.now c.args.key c.find.result c.find.ensures c.in_default.not-Held in
     record {
       answer = search rules;
       after = same_held (held_by row) (take_out (held_by row) c.args.key) (sym (write_absent (gathered row.slots.now) c.args.key gone)) refl;

@@ -11,8 +11,8 @@ use Rattle.ordered.proofs.row.Row.change.Goals as goal
 inside : (g : given.Over) (c : goal.In-Ok g) → c.in-Ok.at < length c.args.self.now.slots.now
 inside g c = omega (arith, c.in-Ok.ensures.within)
 
-pub offset-bounds-self-at : goal.offset-bounds-self-at
-offset-bounds-self-at g c = let at = inside g c in search rules
+pub offset_bounds-self-at : goal.offset_bounds-self-at
+offset_bounds-self-at g c = let at = inside g c in search rules
 
 pub returns-in-Ok : goal.returns-in-Ok
 returns-in-Ok g c =

@@ -5,5 +5,5 @@ use Rattle.ordered.proofs.row.Row.get.Goals as goal
 
 pub returns-in-Ok : goal.returns-in-Ok
 returns-in-Ok g c =
-    c.value-in.ensures ∙ get_there (front c.args.self.now) c.requires.1 c.args.key _ c.index-held-at.result
+    c.value_in.ensures ∙ get_there (front c.args.self.now) c.requires.1 c.args.key _ c.index-held-at.result
     c.in-Ok.ensures.within c.index-held-at.is c.in-Ok.ensures.value
