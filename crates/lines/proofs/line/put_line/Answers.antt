@@ -12,7 +12,7 @@ returns c =
     let first = decimal c.args.pair in
     let ts = decoded_text d in
     let whole : puts (c.args.buf.now, c.args.at) (first ∷ (ts ++ (codes "\n" ∷ []))) ≡ (c.plain.new.buf, c.plain.result) =
-    ap (λ (s : Spot). puts s (ts ++ (codes "\n" ∷ []))) c.number_at.ensures.puts
+    ap (λ (s : Spot). puts s (ts ++ (codes "\n" ∷ []))) c.number-at.ensures.puts
     ∙ puts-append _ ts (codes "\n" ∷ [])
     ∙ ap (λ (s : Spot). puts s (codes "\n" ∷ [])) c.body-at.ensures.puts
     ∙ c.plain.ensures.puts in

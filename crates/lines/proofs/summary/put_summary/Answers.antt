@@ -11,9 +11,9 @@ returns c =
     let last = codes " rewritten differ\n" in
     let ts : List (List ℕ) = decimal c.args.messages ∷ second ∷ third ∷ last ∷ [] in
     let whole : puts (buf, 0) ts ≡ (c.plain.new.buf, c.plain.result) =
-    ap (λ (s : Spot). put (put (put s second) third) last) c.number_at.ensures.puts
-    ∙ ap (λ (s : Spot). put (put s third) last) c.number_at-2.ensures.puts
-    ∙ ap (λ (s : Spot). put s last) c.number_at-3.ensures.puts
+    ap (λ (s : Spot). put (put (put s second) third) last) c.number-at.ensures.puts
+    ∙ ap (λ (s : Spot). put (put s third) last) c.number-at-2.ensures.puts
+    ∙ ap (λ (s : Spot). put s last) c.number-at-3.ensures.puts
     ∙ c.plain.ensures.puts in
     let e = c.plain.ensures.end in
     let at = puts_written buf _ 0 _ ts whole (omega arith) in

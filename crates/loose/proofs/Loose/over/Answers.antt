@@ -8,7 +8,7 @@ use Rattle.loose.proofs.Loose.over.Goals as goal
 pub invariant_of-result : goal.invariant_of-result
 invariant_of-result g c =
     let none = emptied c.wipe.new.slots c.wipe.ensures (omega (arith, c.wipe.auto.slots, length-take c.min-n.result c.args.slots.now)) in
-    (none.0, (ap length (sym none.1), tt))
+    record { tidy = none.0; counted = ap length (sym none.1) }
 
 pub returns : goal.returns
 returns g c =

@@ -9,7 +9,7 @@ pub invariant_of-self : goal.invariant_of-self
 invariant_of-self g c =
     let s = c.args.self.now in
     let new = change_there s.pairs.items s.rises c.args.key _ _ c.args.value c.in-Ok.ensures.value refl in
-    (sorted_write s.pairs.items _ c.args.key (Some c.args.value) s.rises (omega arith) new, (s.fits, tt))
+    record { rises = sorted_write s.pairs.items _ c.args.key (Some c.args.value) s.rises (omega arith) new; fits = s.fits }
 
 pub returns-in-Ok : goal.returns-in-Ok
 returns-in-Ok g c =

@@ -19,7 +19,10 @@ pub invariant_of-self : goal.invariant_of-self
 invariant_of-self g c =
     let s = c.args.self.now in
     let longer = rw (c.insert.ensures.succeeds (omega arith)) at c.insert.ensures.len in
-    (sorted_write s.pairs.items _ c.args.key (Some c.args.value) s.rises (omega arith) (new g c), ((omega arith, omega arith, omega arith), tt))
+    record {
+      rises = sorted_write s.pairs.items _ c.args.key (Some c.args.value) s.rises (omega arith) (new g c);
+      fits = (omega arith, omega arith, omega arith);
+    }
 
 pub returns-else-len-self : goal.returns-else-len-self
 returns-else-len-self g c =

@@ -10,7 +10,7 @@ pub invariant_of-self : goal.invariant_of-self
 invariant_of-self g c =
     let s = c.args.self.now in
     let new = out_there s.pairs.items s.rises c.args.key _ _ c.in-Ok.ensures.value c.remove.ensures.items in
-    (sorted_write s.pairs.items _ c.args.key None s.rises (omega arith) new, ((omega arith, omega arith, omega arith), tt))
+    record { rises = sorted_write s.pairs.items _ c.args.key None s.rises (omega arith) new; fits = (omega arith, omega arith, omega arith) }
 
 pub returns-in-Ok : goal.returns-in-Ok
 returns-in-Ok g c =
