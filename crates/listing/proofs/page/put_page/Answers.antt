@@ -3,7 +3,7 @@ use Rattle.listing.specs.Paging.{total, page_lines}
 use Rattle.listing.proofs.Agrees.{none_differs}
 use Rattle.listing.proofs.Paging.{at_most_one, is_message, never_none, going_more, going_all, going_full, going_stands}
 use Rattle.listing.proofs.page.put_page.Goals as goal
-use Rattle.listing.proofs.page.put_page.Goals.{else-loop-pair-test, then-loop-pair-test+in-Some+in-default-put_line}
+use Rattle.listing.proofs.page.put_page.Goals.{else-loop-pair-test, then-loop-pair-test+in-Some+in_default-put_line}
 
 pub unreachable-requires : goal.unreachable-requires
 unreachable-requires c = never_none c.args.capture.now c.loop-pair.pair (omega arith) c.in_default.ensures
@@ -33,15 +33,15 @@ returns c =
     let lines : c.loop-pair.pair - c.args.start ≡ page_lines f bytes c.args.start (length buf) =
     elim c.loop-pair-test.branch [
       | else-loop-pair-test w ↦ going_all f bytes c.args.start buf _ _ _ _ _ inv (omega (arith, w.loop-pair-test.false))
-      | then-loop-pair-test+in-Some+in-default-put_line w ↦
+      | then-loop-pair-test+in-Some+in_default-put_line w ↦
           going_full f bytes c.args.start buf _ _ _ _ _ inv (omega (arith, w.loop-pair-test.true)) (let h = w.in_default-put_line.ensures.lined.0 in omega arith)
     ] in
     let same : c.loop-pair-test.buf ≡ c.loop-pair.buf =
     elim c.loop-pair-test.branch [
       | else-loop-pair-test w ↦ w.buf-is
-      | then-loop-pair-test+in-Some+in-default-put_line w ↦ w.buf-is ∙ w.in_default-put_line.ensures.lined.1
+      | then-loop-pair-test+in-Some+in_default-put_line w ↦ w.buf-is ∙ w.in_default-put_line.ensures.lined.1
     ] in
     let all = going_stands f bytes c.args.start buf _ _ _ _ _ inv _ lines in
     let from = inv.from in
     let upto = inv.upto in
-    record { lines = lines; within = omega arith; refused = inv.counts; differ = inv.compares; agree = inv.compares ∙ none_differs f bytes _ c.args.start (λ i. omega (arith, c.type-inv.capture i)); bytes = all.ends ∙ omega arith; bound = inv.fits; after = same ∙ all.bytes }
+    record { lines = lines; within = omega arith; refused = inv.counts; differ = inv.compares; agree = inv.compares ∙ none_differs f bytes _ c.args.start (λ i. omega (arith, c.type_inv.capture i)); bytes = all.ends ∙ omega arith; bound = inv.fits; after = same ∙ all.bytes }

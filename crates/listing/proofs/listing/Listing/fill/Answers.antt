@@ -24,4 +24,4 @@ invariant_of-self c =
     let compared = how_many_split (differs l.feed) l.capture.now l.next n _ _ l.compared c.put_page-page.ensures.differ in
     let was = l.agree in
     let adds = c.put_page-page.ensures.agree in
-    (l.whole, (omega arith, (counted, (omega arith, (compared, tt)))))
+    record { whole = l.whole; within = omega arith; counted = counted; agree = omega arith; compared = compared }
