@@ -1,7 +1,7 @@
 -- The formats of the messages: one row for each, to be compared with the format by eye.
 use Rattle.std.specs.Prelude.{ℕ, Bool, true, false, List, [], ◌∷◌, Some, None, codes, Option, slice_index}
 use Prim.Native.String.{String}
-use Rattle.codes.specs.Letters.{events, categories, authenticities, sides, states, restrictions}
+pub use Rattle.codes.specs.Letters.{events, categories, authenticities, sides, states, restrictions}
 use Rattle.wire.specs.declared.message.Feed.{Feed}
 use Rattle.wire.specs.declared.message.Feed.TheVariants.{Depth, Bbbo, LastSale}
 

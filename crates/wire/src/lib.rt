@@ -2,6 +2,8 @@
 
 #![tactic(auto)]
 
+pub use codes;
+
 pub mod fault;
 mod fields;
 mod judging;
