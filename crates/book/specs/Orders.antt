@@ -1,5 +1,5 @@
 -- Orders: they open, lose shares, leave and give way to others.
-use Rattle.std.specs.Prelude.{ℕ, ◌-◌, true, cond, List, Some, Ok, Err, Result, nat_le, nat_lt}
+use Rattle.std.specs.Prelude.{ℕ, ◌-◌, true, cond, List, Some, Ok, Result, nat_le, nat_lt}
 use Rattle.store.specs.Held.{Held, find, has, puts, put, change, take_out, written}
 use Rattle.book.specs.declared.fault.BookFault.{BookFault}
 use Rattle.book.specs.declared.fault.BookFault.TheVariants.{UnknownReference, ReferenceOpen, TooManyShares, MatchUsed, OrdersFull, MatchesFull}

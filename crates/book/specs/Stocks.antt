@@ -1,5 +1,5 @@
 -- Stocks: the directory, halts and restrictions.
-use Rattle.std.specs.Prelude.{ℕ, Bool, true, false, cond, not, ◌&&◌, List, [], ◌∷◌, Some, None, Ok, Err, Option, Result, ◌==◌}
+use Rattle.std.specs.Prelude.{ℕ, Bool, true, false, cond, not, ◌&&◌, List, [], ◌∷◌, Some, None, Ok, Option, Result, ◌==◌}
 use Rattle.std.specs.Str.{bytes_eq}
 use Rattle.store.specs.Held.{find, puts, put, change}
 use Rattle.book.specs.declared.fault.BookFault.{BookFault}

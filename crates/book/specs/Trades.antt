@@ -1,5 +1,5 @@
 -- Trades: they are corrected and broken.
-use Rattle.std.specs.Prelude.{ℕ, Bool, true, false, not, Ok, Err, Result}
+use Rattle.std.specs.Prelude.{ℕ, Bool, true, false, not, Ok, Result}
 use Rattle.store.specs.Held.{find, puts, put, change}
 use Rattle.book.specs.declared.fault.BookFault.{BookFault}
 use Rattle.book.specs.declared.fault.BookFault.TheVariants.{UnknownMatch, NotLive, MatchUsed, MatchesFull}

@@ -1,13 +1,12 @@
 -- One message of a judged capture, and how playing goes on after it.
-use Rattle.std.proofs.Common.{◌≡◌, ℕ, zero, suc, ◌+◌, ◌-◌, ◌*◌, ◌<◌, ◌≤◌, Bool, true, false, cond, ltb, leb, List, [], ◌∷◌, length, Some, None, Ok, Err, Option, Result, sym, refl, ap, ◌∙◌, arith}
-use Rattle.std.proofs.lemmas.Bool.{le-leb, lt-ltb, le-ltb}
-use Rattle.capture.specs.declared.fault.CaptureFault.{CaptureFault}
+use Rattle.std.proofs.Common.{◌≡◌, ℕ, ◌+◌, ◌-◌, ◌<◌, ◌≤◌, List, Ok, Err, Result, sym, ap, ◌∙◌, arith}
+use Rattle.std.proofs.lemmas.Bool.{lt-ltb, le-ltb}
 use Rattle.capture.specs.declared.fault.CaptureFault.TheVariants.{StartsPast}
 use Rattle.capture.specs.Index.{judged, message, messages}
 use Rattle.capture.proofs.Found.{messages_more}
 use Rattle.book.specs.declared.fault.FeedFault.{FeedFault}
 use Rattle.book.specs.declared.fault.PlayFault.{PlayFault}
-use Rattle.book.specs.declared.fault.PlayFault.TheVariants.{Index, Message}
+use Rattle.book.specs.declared.fault.PlayFault.TheVariants.{Index}
 use Rattle.book.specs.Book.{Book, after}
 use Rattle.book.specs.Feed.{fed, count}
 use Rattle.book.specs.Play.{Played, go_on, plays, played_as, played, at_pair}

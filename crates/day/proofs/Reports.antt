@@ -1,5 +1,5 @@
 -- The report stock by stock: what is left of it, how long it is, and where it stands in a buffer.
-use Rattle.std.proofs.Common.{◌≡◌, ℕ, suc, ◌+◌, ◌-◌, ◌^◌, ◌<◌, ◌≤◌, true, false, leb, List, [], ◌∷◌, ◌++◌, length, take, drop, Some, None, sym, refl, ap, ◌∙◌, append_assoc, arith, length-append, length-drop, length-take}
+use Rattle.std.proofs.Common.{◌≡◌, ℕ, ◌+◌, ◌-◌, ◌^◌, ◌<◌, ◌≤◌, true, false, leb, List, [], ◌∷◌, ◌++◌, length, take, drop, Some, None, sym, refl, ap, ◌∙◌, append_assoc, arith, length-append, length-drop, length-take}
 use Rattle.std.proofs.lemmas.List.{take_at, drop_at, take-append-drop}
 use Rattle.std.proofs.lemmas.Bool.{lt-leb, le-leb}
 use Rattle.std.proofs.lemmas.Bool.Decides.{nat_tests}
@@ -7,7 +7,7 @@ use Rattle.store.specs.Held.{Held, Sound, onward, from}
 use Rattle.store.proofs.Scan.{onward_zero, onward_more, onward_none, onward_last, onward_shorter}
 use Rattle.text.specs.Line.{line, lines}
 use Rattle.text.specs.Placed.{written}
-use Rattle.text.proofs.Writes.{Stands, stands_more, stands_as}
+use Rattle.text.proofs.Writes.{Stands, stands_more}
 use Rattle.book.specs.declared.value.Stock.{Stock}
 use Rattle.book.specs.Report.{line_of, lines_of}
 

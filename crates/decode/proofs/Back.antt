@@ -1,6 +1,5 @@
 -- What is decoded writes the same bytes.
-use Rattle.std.proofs.Common.{◌≡◌, ℕ, ◌+◌, ◌<◌, ◌≤◌, min, Bool, true, false, cond, ◌&&◌, eqb, List, [], ◌∷◌, ◌++◌, length, get_or, take, drop, Some, None, Ok, Err, Option, Result, sym, refl, ap, ◌∙◌, subst, arith, take-append-drop}
-use Rattle.std.specs.Int.Digits.{number_from_digits}
+use Rattle.std.proofs.Common.{◌≡◌, ℕ, ◌+◌, ◌≤◌, min, Bool, true, false, cond, eqb, List, [], ◌∷◌, ◌++◌, length, drop, Some, None, Ok, Err, Option, Result, sym, refl, subst, arith, take-append-drop}
 use Rattle.std.proofs.lemmas.List.{drop-drop, length-take-le, length-drop, get_or-drop, drop_all}
 use Rattle.std.proofs.lemmas.Bool.{and_parts, eqb-true}
 use Rattle.wire.specs.declared.fault.BytesFault.TheVariants.{WrongLength}
@@ -8,11 +7,11 @@ use Rattle.wire.specs.declared.fault.FieldsFault.{FieldsFault}
 use Rattle.wire.specs.declared.fault.WireFault.TheVariants.{Bytes}
 use Rattle.wire.specs.declared.message.Feed.{Feed}
 use Rattle.wire.specs.Judging.{row_judged}
-use Rattle.wire.specs.Layout.{digits, fields_bytes, bytes_of}
+use Rattle.wire.specs.Layout.{fields_bytes, bytes_of}
 use Rattle.wire.specs.Table.{Row, Field, num, symbol, Value, table, every_field}
 use Rattle.decode.specs.Decoding.{part, values, find, if_passed, checked, by_row, decoding, ByteString}
 use Rattle.decode.proofs.Digits.{digits_number, front_bytes}
-use Rattle.decode.proofs.Whole.{offset, width, gapless, whole, in_table}
+use Rattle.decode.proofs.Whole.{offset, width, gapless, in_table}
 
 -- one field more without a gap
 pub follows : (f : Field) (fs : List Field) (at end : ℕ) → gapless at (f ∷ fs) end ≡ true → (offset f ≡ at) × (gapless (at + width f) fs end ≡ true)

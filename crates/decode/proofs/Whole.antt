@@ -1,6 +1,6 @@
 -- Every row of the table: its fields follow one another from offset 1 to its length, with no gap.
 use Rattle.std.proofs.Common.{◌≡◌, ℕ, ◌+◌, Bool, true, false, cond, ◌&&◌, eqb, List, [], ◌∷◌, Some, refl, subst, arith}
-use Rattle.std.proofs.lemmas.Bool.{and_parts, and_from, eqb-true}
+use Rattle.std.proofs.lemmas.Bool.{and_parts, eqb-true}
 use Rattle.wire.specs.declared.message.Feed.{Feed}
 use Rattle.wire.specs.Table.{Row, Field, num, symbol, table, every_field}
 use Rattle.decode.specs.Decoding.{find}

@@ -1,5 +1,5 @@
 -- What bytes of a feed are decoded to: a row and the values of its fields, or why they are refused.
-use Rattle.std.specs.Prelude.{ℕ, ◌<◌, min, Bool, cond, ◌&&◌, List, [], ◌∷◌, map, length, take, drop, Some, None, Ok, Err, Option, Result, ◌==◌, slice_index}
+use Rattle.std.specs.Prelude.{ℕ, ◌<◌, min, cond, ◌&&◌, List, [], ◌∷◌, map, length, take, drop, Some, None, Ok, Err, Option, Result, ◌==◌, slice_index}
 use Rattle.std.specs.Int.Digits.{number_from_digits}
 use Rattle.wire.specs.declared.fault.BytesFault.TheVariants.{Empty, NotInFeed, WrongLength}
 use Rattle.wire.specs.declared.fault.FieldsFault.{FieldsFault}

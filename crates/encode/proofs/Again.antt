@@ -1,23 +1,22 @@
 -- What is written decodes to the same fields.
-use Rattle.std.proofs.Common.{◌≡◌, ℕ, ◌+◌, ◌*◌, Bool, true, false, cond, ◌&&◌, eqb, leb, List, [], ◌∷◌, ◌++◌, length, take, drop, Some, None, Ok, Option, Result, sym, refl, ap, ◌∙◌, subst, append_assoc, arith, length-append}
+use Rattle.std.proofs.Common.{◌≡◌, ℕ, ◌+◌, true, cond, eqb, List, [], ◌∷◌, ◌++◌, length, take, drop, Some, None, Ok, Option, Result, sym, refl, ap, ◌∙◌, subst, append_assoc, arith, length-append}
 use Rattle.std.specs.Int.Digits.{number_from_digits}
 use Rattle.std.proofs.lemmas.List.{take_at, drop_at}
 use Rattle.std.proofs.lemmas.Bool.{eq-eqb, eqb-true}
 use Rattle.wire.specs.declared.fault.FieldsFault.{FieldsFault}
-use Rattle.wire.specs.declared.fault.FieldsFault.TheVariants.{OverLimit}
 use Rattle.wire.specs.declared.message.Feed.{Feed}
 use Rattle.wire.specs.declared.message.Feed.TheVariants.{Depth, Bbbo, LastSale}
 use Rattle.wire.specs.declared.message.Message.{Message}
 use Rattle.wire.specs.declared.message.Message.TheVariants as message
-use Rattle.wire.specs.Judging.{verdict, judged, after, fields_judged, figure_at, limit_judged, row_judged}
+use Rattle.wire.specs.Judging.{judged, after, fields_judged, figure_at, limit_judged, row_judged}
 use Rattle.wire.specs.Layout.{digits, fields_bytes, bytes_of}
-use Rattle.wire.specs.Table.{Test, nought, some, free, one_of, within, Row, Field, num, symbol, Value, figure, text, every_field, table, depth, bbbo, last_sale, row_S, row_R, row_H, row_Y, row_A, row_E, row_X, row_D, row_U, row_C, row_B, row_Q, row_T, row_sale_X}
+use Rattle.wire.specs.Table.{Row, Field, num, symbol, Value, figure, text, every_field, table, depth, bbbo, last_sale, row_S, row_R, row_H, row_Y, row_A, row_E, row_X, row_D, row_U, row_C, row_B, row_Q, row_T, row_sale_X}
 use Rattle.wire.specs.Told.{told}
 use Rattle.decode.specs.Decoding.{part, values, find, by_row, checked, if_passed, decoding}
 use Rattle.decode.proofs.Digits.{length_digits, number_digits}
 use Rattle.decode.proofs.Whole.{gapless, in_table}
 use Rattle.decode.proofs.Back.{follows}
-use Rattle.encode.specs.Laying.{laid, placed, Narrow, AllNarrow, Widths}
+use Rattle.encode.specs.Laying.{laid, placed, AllNarrow, Widths}
 use Rattle.encode.specs.Writing.{at_home, as_written}
 use Rattle.encode.proofs.Laying.{in_order, letter_first}
 use Rattle.encode.proofs.Shapes.{shaped, never, told_shaped}

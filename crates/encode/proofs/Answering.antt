@@ -1,5 +1,5 @@
 -- What writing answers once every question has passed.
-use Rattle.std.proofs.Common.{◌≡◌, ℕ, ◌≤◌, true, List, Ok, sym}
+use Rattle.std.proofs.Common.{◌≡◌, ℕ, ◌≤◌, true, List, Ok}
 use Rattle.std.proofs.lemmas.Bool.{le-leb}
 use Rattle.wire.specs.declared.message.Feed.{Feed}
 use Rattle.wire.specs.Judging.{row_judged}

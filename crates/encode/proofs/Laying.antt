@@ -1,9 +1,9 @@
 -- Fields laid one after another without a gap are the message's bytes, with the others behind them.
-use Rattle.std.proofs.Common.{◌≡◌, ℕ, ◌+◌, ◌-◌, Bool, true, false, List, [], ◌∷◌, ◌++◌, length, take, drop, sym, refl, ap, ◌∙◌, append_assoc, append-nil, arith, length-append}
+use Rattle.std.proofs.Common.{◌≡◌, ℕ, ◌+◌, true, List, [], ◌∷◌, ◌++◌, length, drop, sym, refl, ap, ◌∙◌, append_assoc, append-nil, arith, length-append}
 use borrow.Rule.Slice.PartMut.{put_mid}
 use Rattle.std.proofs.lemmas.List.{take_at, drop_at, drop-drop}
 use Rattle.std.proofs.lemmas.Bool.{eqb-true}
-use Rattle.wire.specs.Layout.{digits, field_bytes, fields_bytes}
+use Rattle.wire.specs.Layout.{digits, fields_bytes}
 use Rattle.wire.specs.Table.{Row, Field, num, symbol, Value, figure, text}
 use Rattle.decode.proofs.Back.{follows}
 use Rattle.decode.proofs.Digits.{length_digits}

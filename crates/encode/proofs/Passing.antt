@@ -8,7 +8,7 @@ use Rattle.wire.specs.declared.message.Message.{Message}
 use Rattle.wire.specs.declared.message.Message.TheVariants as message
 use Rattle.wire.specs.Judging.{verdict, judged, after, fields_judged, limit_judged, row_judged}
 use Rattle.wire.specs.Symbols.{printable, filled, well_formed}
-use Rattle.wire.specs.Table.{Test, nought, some, free, one_of, within, Row, Field, num, symbol, Value, figure, text, every_field}
+use Rattle.wire.specs.Table.{nought, some, free, one_of, within, Field, num, symbol, Value, figure, text, every_field}
 use Rattle.wire.specs.Told.{told}
 use Rattle.encode.specs.Laying.{Narrow, AllNarrow}
 

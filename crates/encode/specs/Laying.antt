@@ -1,7 +1,7 @@
 -- Bytes laid into a buffer, field by field at their offsets.
 use Rattle.std.specs.Prelude.{◌≡◌, ℕ, ◌+◌, ◌^◌, ◌<◌, List, [], ◌∷◌, ◌++◌, length, take, drop}
 use Rattle.wire.specs.Layout.{field_bytes}
-use Rattle.wire.specs.Table.{Test, nought, some, free, one_of, within, Field, num, symbol, Value, figure, text, Row, every_field}
+use Rattle.wire.specs.Table.{nought, some, free, one_of, within, Field, num, symbol, Value, figure, text, Row, every_field}
 
 -- A buffer with these bytes in the place of as many from an offset on.
 unfoldable pub laid : (at : ℕ) → (bytes buffer : List ℕ) → List ℕ

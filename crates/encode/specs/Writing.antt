@@ -1,5 +1,5 @@
 -- What writing a message of a feed answers, and what it leaves in the buffer.
-use Rattle.std.specs.Prelude.{ℕ, cond, List, [], ◌∷◌, ◌++◌, length, drop, Ok, Err, Result, nat_le}
+use Rattle.std.specs.Prelude.{ℕ, cond, List, [], ◌∷◌, ◌++◌, drop, Ok, Err, Result, nat_le}
 use Rattle.wire.specs.declared.fault.BytesFault.TheVariants.{NotInFeed, ShortBuffer}
 use Rattle.wire.specs.declared.fault.FieldsFault.{FieldsFault}
 use Rattle.wire.specs.declared.fault.WireFault.{WireFault}

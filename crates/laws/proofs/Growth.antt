@@ -4,7 +4,6 @@ use Rattle.std.proofs.lemmas.Bool.{cases_Bool, eqb-true}
 use Rattle.std.specs.Option.{ok_or}
 use Rattle.store.specs.Held.{at, or_else}
 use Rattle.book.specs.declared.fault.BookFault.TheVariants.{UnknownLocate}
-use Rattle.book.specs.declared.value.Sums.{Sums}
 use Rattle.book.specs.Book.{Book}
 use Rattle.book.specs.Book as book
 use Rattle.book.specs.Message.{Msg}

@@ -1,5 +1,5 @@
 -- No message differs when it is decoded and written again.
-use Rattle.std.proofs.Common.{◌≡◌, ℕ, zero, suc, ◌+◌, ◌-◌, ◌<◌, Bool, true, false, cond, not, ◌&&◌, eqb, leb, List, [], ◌∷◌, length, get_or, drop, Some, Ok, Err, Result, sym, refl, ap, ◌∙◌, subst, arith}
+use Rattle.std.proofs.Common.{◌≡◌, ℕ, zero, suc, ◌+◌, ◌-◌, Bool, true, false, cond, not, ◌&&◌, eqb, leb, List, [], ◌∷◌, length, drop, Some, Ok, Err, Result, sym, refl, ap, ◌∙◌, subst, arith}
 use Rattle.std.proofs.lemmas.Slice.Eq.{bytes_eq-Decides}
 use Rattle.std.proofs.lemmas.List.{get_or-drop}
 use Rattle.std.proofs.lemmas.Bool.{and_parts, eq-eqb}
@@ -10,7 +10,7 @@ use Rattle.wire.specs.Judging.{row_judged}
 use Rattle.wire.specs.Layout.{bytes_of}
 use Rattle.wire.specs.Table.{Row, Value, table, every_field}
 use Rattle.capture.specs.Index.{start, end, message, messages}
-use Rattle.decode.specs.Decoding.{find, values, checked, if_passed, by_row, decoding, ByteString}
+use Rattle.decode.specs.Decoding.{find, values, checked, if_passed, by_row, ByteString}
 use Rattle.decode.proofs.Digits.{front_bytes}
 use Rattle.decode.proofs.Back.{accepted_as, writes_back}
 use Rattle.encode.specs.Writing.{writing}

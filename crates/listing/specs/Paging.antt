@@ -1,5 +1,5 @@
 -- Lines of a capture one after another, as many as a buffer has room for.
-use Rattle.std.specs.Prelude.{ℕ, suc, ◌+◌, ◌-◌, Bool, cond, List, [], ◌∷◌, ◌++◌, length, is_err, Ok, Err, codes, decimal, Result, nat_lt}
+use Rattle.std.specs.Prelude.{ℕ, suc, ◌+◌, ◌-◌, Bool, cond, List, [], ◌∷◌, ◌++◌, length, is_err, Ok, Err, Result, nat_lt}
 use Rattle.wire.specs.declared.message.Feed.{Feed}
 use Rattle.capture.specs.declared.fault.CaptureFault.{CaptureFault}
 use Rattle.capture.specs.Index.{judged, messages}

@@ -1,10 +1,10 @@
 -- Where a key stands in a rising list of pairs, and what a write at that place makes of the list.
-use Rattle.std.specs.Prelude.{◌≡◌, ℕ, zero, suc, ◌^◌, ◌<◌, ◌≤◌, true, false, cond, List, [], ◌∷◌, length, get_or, is_some, Some, None, Ok, Err, Option, ◌≢◌, nat_lt, slice_index_or, slice_set, refl}
+use Rattle.std.specs.Prelude.{◌≡◌, ℕ, zero, suc, ◌<◌, ◌≤◌, true, false, cond, List, [], ◌∷◌, length, get_or, is_some, Some, None, Ok, Err, Option, ◌≢◌, nat_lt, slice_index_or, slice_set, refl}
 use Rattle.std.proofs.Common.{inl, inr, sym, ap, arith}
 use Rattle.std.proofs.lemmas.Bool.{lt-ltb, le-ltb, eq-eqb, ne_eqb, ltb-false, both_ways, cases_Bool, cases_order, cases_lt, lt-leb, le-leb}
 use Rattle.std.proofs.lemmas.Bool.Decides.{nat_tests}
 use Rattle.std.specs.List.{insert, remove}
-use Rattle.store.specs.Held.{at, from, before, write, From, Fit}
+use Rattle.store.specs.Held.{at, from, write, From}
 use Rattle.store.proofs.Maps.{absent}
 use Rattle.ordered.specs.Slots.{rank, place}
 

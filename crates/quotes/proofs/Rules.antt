@@ -1,7 +1,7 @@
 -- The levels of rising pairs meet the rule of a quote.
-use Rattle.std.proofs.Common.{◌≡◌, ℕ, suc, ◌+◌, ◌≤◌, Bool, true, false, cond, ◌&&◌, eqb, ◌⊎◌, List, [], ◌∷◌, Some, None, Option, sym, refl, ap, ◌∙◌, subst, inl, inr, arith}
+use Rattle.std.proofs.Common.{◌≡◌, ℕ, suc, ◌+◌, Bool, true, false, cond, ◌&&◌, eqb, ◌⊎◌, List, [], ◌∷◌, Some, None, Option, refl, ap, ◌∙◌, subst, inl, inr, arith}
 use Rattle.std.proofs.lemmas.Bool.{cases_lt, eq-eqb}
-use Rattle.std.proofs.lemmas.Bool.Decides.{nat_tests, eqb_tells}
+use Rattle.std.proofs.lemmas.Bool.Decides.{eqb_tells}
 use Rattle.store.specs.Held.{at, From, Rising}
 use Rattle.store.specs.Sums.{sum}
 use Rattle.store.proofs.Maps.{absent}
@@ -10,7 +10,7 @@ use Rattle.book.specs.declared.value.Side.{Side}
 use Rattle.book.specs.declared.value.Side.TheVariants.{Buy, Sell}
 use Rattle.book.specs.Quote.{orders_of, on_side, better, best, shares_at, level, quoted}
 use Rattle.quotes.specs.Levels.{levels}
-use Rattle.quotes.specs.Rule.{Open, NoBetter, counts, Best, SideRule, LevelsRule}
+use Rattle.quotes.specs.Rule.{Open, NoBetter, counts, SideRule, LevelsRule}
 
 on_side_same : (by : Side) → on_side by by ≡ true
 on_side_same Buy = refl

@@ -11,8 +11,8 @@ ghost use Rattle.wire.specs.Told.{told};
 
 use book::fault::BookFault;
 use book::value::{Listing, Order, ShortSale, Stock, Sums, Trade, TradingState};
-use ledger::keeping::Ledger;
 use ledger::day::due;
+use ledger::keeping::Ledger;
 use ledger::questions::{owned, placed, same, unless};
 use store::Store;
 use wire::message::{Directory, Message, Restriction, TradingAction};

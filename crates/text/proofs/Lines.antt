@@ -1,8 +1,8 @@
 -- The length of a line, and a symbol's bytes before its filling.
-use Rattle.std.proofs.Common.{◌≡◌, ℕ, ◌+◌, ◌<◌, ◌≤◌, true, false, cond, List, [], ◌∷◌, length, get_or, take, drop, sym, refl, ap, ◌∙◌, arith, length-append}
+use Rattle.std.proofs.Common.{◌≡◌, ℕ, ◌≤◌, List, [], ◌∷◌, length, take, refl, arith, length-append}
 use Rattle.std.proofs.lemmas.Bool.Decides.{nat_tests}
 use Rattle.text.specs.declared.line.Line.{Line}
-use Rattle.text.specs.Line.{line, lines, size, unfilled}
+use Rattle.text.specs.Line.{line, size, unfilled}
 
 pub length-line : (l : Line) → length (line l) ≡ size l
 length-line l = simp length-append (omega arith)

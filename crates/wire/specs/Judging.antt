@@ -1,5 +1,5 @@
 -- The questions that a message's fields must pass: 4 on the locate, 5 on a symbol, 6 on a code, 7 on bounds, 8 on price times shares.
-use Rattle.std.specs.Prelude.{ℕ, ◌+◌, ◌*◌, Bool, true, false, cond, ◌&&◌, List, [], ◌∷◌, is_some, Some, None, Ok, Err, Option, Result, ◌==◌, nat_le}
+use Rattle.std.specs.Prelude.{ℕ, ◌*◌, Bool, true, false, cond, ◌&&◌, List, [], ◌∷◌, is_some, Some, None, Ok, Err, Option, Result, ◌==◌, nat_le}
 pub use Rattle.codes.specs.Letters.{rank}
 use Rattle.wire.specs.declared.fault.FieldsFault.{FieldsFault}
 use Rattle.wire.specs.declared.fault.FieldsFault.TheVariants.{WrongLocate, BadSymbol, UnlistedCode, OutOfBounds, OverLimit}

@@ -1,5 +1,5 @@
 -- What a message of the code tells: its row and the values of its fields, from the locate on.
-use Rattle.std.specs.Prelude.{ℕ, List, [], ◌∷◌}
+use Rattle.std.specs.Prelude.{List, [], ◌∷◌}
 use Rattle.wire.specs.declared.message.Head.{Head}
 use Rattle.wire.specs.declared.message.Symbol.{Symbol}
 use Rattle.wire.specs.declared.message.Event.{Event}

@@ -1,5 +1,5 @@
 -- A run: a feed, a refused feed, a capture whose last message is refused, readings and another feed.
-use Rattle.std.specs.Prelude.{◌≡◌, ℕ, ◌≤◌, List, [], ◌∷◌, ◌++◌, Some, None, Ok, Err, codes}
+use Rattle.std.specs.Prelude.{◌≡◌, ℕ, List, [], ◌∷◌, ◌++◌, Some, None, Ok, Err, codes}
 use Rattle.std.proofs.Common.{lit≤}
 use Rattle.wire.specs.declared.fault.BytesFault.TheVariants.{Empty}
 use Rattle.wire.specs.declared.fault.WireFault.TheVariants.{Bytes}
@@ -9,7 +9,6 @@ use Rattle.book.specs.declared.fault.BookFault.TheVariants.{TooManyShares}
 use Rattle.book.specs.declared.fault.FeedFault.TheVariants as feed-fault
 use Rattle.book.specs.declared.fault.PlayFault.TheVariants as play-fault
 use Rattle.book.specs.Feed.{fed, count}
-use Rattle.book.specs.Message.{Msg}
 use Rattle.book.specs.Play.{played}
 use Rattle.book.specs.Quote.{quote}
 use Rattle.laws.specs.Laws.{sums_at}

@@ -1,10 +1,9 @@
 -- A short day over stores of 1 stock, 2 orders and 3 trades. Each message follows the accepted ones before it.
-use Rattle.std.specs.Prelude.{◌≡◌, ℕ, List, [], ◌∷◌, Some, None, Ok, Err, codes, Option, Result}
+use Rattle.std.specs.Prelude.{◌≡◌, ℕ, List, Some, None, Ok, Err, codes, Option, Result}
 use Rattle.wire.specs.declared.fault.Layer.{Layer}
 use Rattle.wire.specs.declared.fault.Layer.TheVariants as layer
 use Rattle.store.specs.Held.{find}
 use Rattle.book.specs.declared.fault.BookFault.{BookFault}
-use Rattle.book.specs.declared.value.Level.{Level}
 use Rattle.book.specs.declared.value.Listing.{Listing}
 use Rattle.book.specs.declared.value.Quote.{Quote}
 use Rattle.book.specs.declared.value.Side.TheVariants.{Buy}

@@ -1,5 +1,4 @@
 use Rattle.std.proofs.Common.{◌≡◌, false, Some, arith, rules}
-use Rattle.std.proofs.lemmas.Bool.Decides.{nat_tests}
 use Rattle.store.specs.Held.{Held, find, has}
 use Rattle.store.proofs.Maps.{put_after_take_out}
 use Rattle.book.specs.declared.value.Order.{Order}

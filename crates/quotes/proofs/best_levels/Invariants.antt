@@ -1,5 +1,5 @@
 -- the quote so far with that of the orders that are left is the whole, and there is room for all that are left
-use Rattle.std.proofs.Common.{◌≡◌, ◌+◌, ◌*◌, ◌^◌, ◌≤◌, length}
+use Rattle.std.proofs.Common.{◌≡◌, length}
 use Rattle.store.specs.Held.{onward}
 use Rattle.quotes.specs.Levels.{levels, Room}
 use Rattle.quotes.proofs.Joins.{both}

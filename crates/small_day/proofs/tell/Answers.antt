@@ -1,4 +1,4 @@
-use Rattle.std.proofs.Common.{◌≡◌, Ok, sym, refl, ap, ◌∙◌, rules}
+use Rattle.std.proofs.Common.{Ok, refl, rules}
 use Rattle.std.proofs.lemmas.Result.{err_from_is_err_and}
 use Rattle.day.proofs.Fronts.{ends_within}
 use Rattle.small_day.specs.SmallDay.{Told, text}

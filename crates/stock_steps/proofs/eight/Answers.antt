@@ -1,4 +1,3 @@
-use Rattle.std.proofs.Common.{arith}
 use Rattle.stock_steps.proofs.Symbols.{by_places}
 use Rattle.stock_steps.proofs.eight.Goals as goal
 

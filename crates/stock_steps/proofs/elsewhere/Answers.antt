@@ -1,10 +1,6 @@
-use Rattle.std.proofs.Common.{◌≡◌, ℕ, ◌+◌, ◌^◌, ◌<◌, List, [], ◌∷◌, length, sym, ap, ◌∙◌, arith, rules}
-use Rattle.std.proofs.lemmas.Bool.Decides.{nat_tests}
-use Rattle.store.specs.Held.{onward}
+use Rattle.std.proofs.Common.{◌+◌, sym, ap, arith, rules}
 use Rattle.store.proofs.Scan.{onward_zero, onward_more, onward_shorter, onward_last}
-use Rattle.book.specs.declared.value.Stock.{Stock}
 use Rattle.book.specs.Stocks.{elsewhere}
-use Rattle.stock_steps.proofs.elsewhere.Given as given
 use Rattle.stock_steps.proofs.elsewhere.Goals as goal
 
 pub returns-in_default-checked_add : goal.returns-in_default-checked_add

@@ -1,4 +1,4 @@
-use Rattle.std.proofs.Common.{◌≡◌, ℕ, ◌+◌, ◌-◌, sym, ap, ◌∙◌, arith}
+use Rattle.std.proofs.Common.{◌≡◌, ◌+◌, ◌-◌, sym, ap, ◌∙◌, arith}
 use Rattle.capture.specs.Index.{end, judged_from}
 use Rattle.capture.proofs.Laid.{laid}
 use Rattle.capture.proofs.Steps.{overlaps, overruns, goes_on, ended}

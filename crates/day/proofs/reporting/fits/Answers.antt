@@ -1,4 +1,4 @@
-use Rattle.std.proofs.Common.{◌≡◌, ℕ, leb, length, sym, refl, ap, ◌∙◌, arith}
+use Rattle.std.proofs.Common.{leb, length, ap, ◌∙◌, arith}
 use Rattle.text.specs.declared.line.Line.{Line}
 use Rattle.text.specs.Line.{line}
 use Rattle.day.proofs.Reports.{all_left, too_long, fits_more, fits_last, fewer}

@@ -1,4 +1,3 @@
-use Rattle.std.proofs.Common.{◌≡◌}
 use Rattle.text.specs.FaultLine.{fault_line}
 use Rattle.day.specs.Texts.{fault_text}
 use Rattle.day.proofs.Fronts.{fronted_at, fault_as, fronted_as}

@@ -1,8 +1,8 @@
-use Rattle.std.proofs.Common.{◌≡◌, ℕ, ◌+◌, List, [], ◌∷◌, ◌++◌, length, codes, decimal, sym, refl, ap, ◌∙◌, arith}
+use Rattle.std.proofs.Common.{◌≡◌, ℕ, ◌+◌, List, [], ◌∷◌, ◌++◌, length, codes, decimal, ap, ◌∙◌, arith}
 use Rattle.decode.specs.Decoding.{told_in}
 use Rattle.text.specs.Placed.{written}
 use Rattle.lines.specs.Line.{decoded_text, line, joined}
-use Rattle.lines.specs.Writing.{Spot, put, puts}
+use Rattle.lines.specs.Writing.{Spot, puts}
 use Rattle.lines.proofs.Putting.{puts-append, joined-append, puts_written}
 use Rattle.lines.proofs.line.put_line.Goals as goal
 

@@ -1,6 +1,5 @@
-use Rattle.std.proofs.Common.{◌≡◌, ℕ, List, [], ◌∷◌, length, sym, ap, ◌∙◌, arith, rules}
-use Rattle.lines.specs.Line.{code_text}
-use Rattle.lines.proofs.Codes.{code_shown, code_space, code_unknown}
+use Rattle.std.proofs.Common.{arith}
+use Rattle.lines.proofs.Codes.{code_unknown}
 use Rattle.lines.proofs.pieces.letter.Goals as goal
 
 pub returns : goal.returns

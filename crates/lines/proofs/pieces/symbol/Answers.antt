@@ -1,4 +1,4 @@
-use Rattle.std.proofs.Common.{◌≡◌, ℕ, List, length, sym, ap, ◌∙◌, arith}
+use Rattle.std.proofs.Common.{ℕ, List, length, sym, ap, ◌∙◌, arith}
 use Rattle.lines.specs.Line.{symbol_text}
 use Rattle.lines.specs.Writing.{put}
 use Rattle.lines.proofs.Putting.{put_more}

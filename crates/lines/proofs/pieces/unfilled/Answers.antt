@@ -1,4 +1,4 @@
-use Rattle.std.proofs.Common.{◌≡◌, ℕ, ◌≤◌, List, length, take, sym, ap, ◌∙◌, arith, length-take}
+use Rattle.std.proofs.Common.{◌≡◌, ℕ, ◌≤◌, length, take, ap, ◌∙◌, arith, length-take}
 use Rattle.text.specs.Line.{unfilled}
 use Rattle.text.proofs.Lines.{unfilled_le}
 use Rattle.lines.specs.Line.{symbol_text}

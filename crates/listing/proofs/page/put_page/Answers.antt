@@ -1,4 +1,4 @@
-use Rattle.std.proofs.Common.{◌≡◌, ℕ, ◌-◌, ◌<◌, ◌≤◌, length, sym, refl, ap, ◌∙◌, arith}
+use Rattle.std.proofs.Common.{◌≡◌, ◌-◌, ◌<◌, length, ◌∙◌, arith}
 use Rattle.listing.specs.Paging.{total, page_lines}
 use Rattle.listing.proofs.Agrees.{none_differs}
 use Rattle.listing.proofs.Paging.{at_most_one, is_message, never_none, going_more, going_all, going_full, going_stands}

@@ -1,5 +1,4 @@
-use Rattle.std.proofs.Common.{◌≡◌, ℕ, ◌+◌, ◌≤◌, List, [], ◌++◌, length, codes, decimal, sym, refl, ap, ◌∙◌, append_assoc, arith, length-append}
-use Rattle.text.specs.Placed.{written}
+use Rattle.std.proofs.Common.{codes, decimal, append_assoc, arith}
 use Rattle.text.specs.FaultLine.{fault_line}
 use Rattle.text.proofs.Writes.{length-fault_line, stands_none, stands_more, stands_as}
 use Rattle.text.proofs.fault_line.put_fault_line.Goals as goal

@@ -1,7 +1,5 @@
-use Rattle.std.proofs.Common.{◌≡◌, ℕ, ◌+◌, ◌-◌, List, [], ◌++◌, length, take, drop, codes, decimal, sym, refl, ap, ◌∙◌, append_assoc, arith}
+use Rattle.std.proofs.Common.{◌≡◌, ℕ, ◌-◌, List, [], ◌++◌, length, take, codes, decimal, ap, ◌∙◌, append_assoc, arith}
 use Rattle.text.specs.Line.{line, unfilled}
-use Rattle.text.specs.Placed.{written}
-use Rattle.text.proofs.Lines.{length-line}
 use Rattle.text.proofs.Writes.{stands_none, stands_more, stands_as}
 use Rattle.text.proofs.line.line_at.Goals as goal
 

@@ -1,5 +1,5 @@
 -- What is left decides, and the first byte has been seen to be printable.
-use Rattle.std.proofs.Common.{◌≡◌, ◌<◌, true, false, length, get_or, drop}
+use Rattle.std.proofs.Common.{◌≡◌, ◌<◌, true, false, get_or, drop}
 use Rattle.wire.specs.Symbols.{filled, printable}
 use Rattle.wire.proofs.symbols.is_symbol.Given as goal
 

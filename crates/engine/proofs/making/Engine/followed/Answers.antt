@@ -1,4 +1,4 @@
-use Rattle.std.proofs.Common.{◌≡◌, ℕ, suc, ◌+◌, ◌-◌, ◌<◌, sym, ap, ◌∙◌, arith, rules}
+use Rattle.std.proofs.Common.{◌≡◌, ℕ, suc, ◌+◌, ◌-◌, ◌<◌, arith, rules}
 use Rattle.store.specs.Held.{Held, find}
 use Rattle.book.specs.declared.value.Trade.{Trade}
 use Rattle.book.specs.Trace.{walk, look}
