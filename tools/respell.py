@@ -578,6 +578,27 @@ quote-replaced quote_replaced
 volume-corrected volume_corrected
 turnover-corrected turnover_corrected
 volume-broken volume_broken
+index-told index_told
+index-count index_count
+wire-refused wire_refused
+book-refused book_refused
+index-refused index_refused
+capture-told capture_told
+line-text line_text
+summary-text summary_text
+no-memory no_memory
+value-at value_at
+after-put after_put
+after-change after_change
+Home-of home_of
+goes-past goes_past
+after-emptied after_emptied
+buffer-after buffer_after
+feed-fault feed_fault
+play-fault play_fault
+over-limit over_limit
+bytes-refused bytes_refused
+fields-refused fields_refused
 bookIn book_in
 bookOf engine_book
 """.split("\n")

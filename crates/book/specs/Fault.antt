@@ -3,7 +3,7 @@ use Rattle.std.specs.Prelude.{ℕ}
 use Rattle.wire.specs.Fault.{told}
 use Rattle.wire.specs.declared.fault.Layer.{Layer}
 use Rattle.wire.specs.declared.fault.Layer.TheVariants as layer
-use Rattle.capture.specs.Fault.{told as capture-told}
+use Rattle.capture.specs.Fault.{told as capture_told}
 use Rattle.book.specs.declared.fault.BookFault.{BookFault}
 use Rattle.book.specs.declared.fault.BookFault.TheVariants.{TooMany, NotDue, UnknownLocate, OtherSymbol, StocksFull, UnknownReference, UnknownMatch, OtherLocate, NotLive, ReferenceOpen, TooManyShares, MatchUsed, OrdersFull, MatchesFull, ShortBuffer}
 use Rattle.book.specs.declared.fault.FeedFault.{FeedFault}
@@ -36,5 +36,5 @@ feed_told (feed.Book f) = book_told f
 
 -- of playing: number, layer, place and pair
 abbrev pub play_told : PlayFault → ℕ × Layer × ℕ × ℕ
-play_told (play.Index f) = ((capture-told f).0, layer.Capture, (capture-told f).1, (capture-told f).2)
+play_told (play.Index f) = ((capture_told f).0, layer.Capture, (capture_told f).1, (capture_told f).2)
 play_told (play.Message pair f) = ((feed_told f).0, (feed_told f).1, (feed_told f).2, pair)

@@ -2,8 +2,8 @@
 
 ghost use Rattle.std.specs.Prelude.{◌≡◌};
 ghost use Rattle.book.specs.Fault.{book_told, feed_told, play_told};
-ghost use Rattle.book.specs.declared.fault.FeedFault.TheVariants.{Wire as wire-refused, Book as book-refused};
-ghost use Rattle.book.specs.declared.fault.PlayFault.TheVariants.{Index as index-refused};
+ghost use Rattle.book.specs.declared.fault.FeedFault.TheVariants.{Wire as wire_refused, Book as book_refused};
+ghost use Rattle.book.specs.declared.fault.PlayFault.TheVariants.{Index as index_refused};
 
 use capture::fault::CaptureFault;
 use wire::fault::{Layer, WireFault};
@@ -43,7 +43,7 @@ pub enum PlayFault {
 }
 
 impl From<WireFault> for FeedFault {
-    ghost from_gives = { λ f r. r ≡ wire-refused f };
+    ghost from_gives = { λ f r. r ≡ wire_refused f };
 
     fn from(fault: WireFault) -> FeedFault {
         FeedFault::Wire(fault)
@@ -51,7 +51,7 @@ impl From<WireFault> for FeedFault {
 }
 
 impl From<BookFault> for FeedFault {
-    ghost from_gives = { λ f r. r ≡ book-refused f };
+    ghost from_gives = { λ f r. r ≡ book_refused f };
 
     fn from(fault: BookFault) -> FeedFault {
         FeedFault::Book(fault)
@@ -59,7 +59,7 @@ impl From<BookFault> for FeedFault {
 }
 
 impl From<CaptureFault> for PlayFault {
-    ghost from_gives = { λ f r. r ≡ index-refused f };
+    ghost from_gives = { λ f r. r ≡ index_refused f };
 
     fn from(fault: CaptureFault) -> PlayFault {
         PlayFault::Index(fault)

@@ -7,7 +7,7 @@ ghost use Rattle.wire.specs.Table.{every_field};
 ghost use Rattle.wire.specs.Told.{told};
 ghost use Rattle.decode.specs.Decoding.{decoding};
 ghost use Rattle.encode.specs.Laying.{AllNarrow, Put};
-ghost use Rattle.encode.specs.Writing.{writing, buffer as buffer-after, as_written};
+ghost use Rattle.encode.specs.Writing.{writing, buffer as buffer_after, as_written};
 
 use wire::fault::{BytesFault, WireFault};
 use wire::message::{Feed, Message};
@@ -85,7 +85,7 @@ fn put_message(message: &Message, buffer: &mut [u8])
 /// What is written decodes to the same fields.
 pub fn write(feed: Feed, message: &Message, buffer: &mut [u8]) -> Result<usize, WireFault>
     ensures answer { result ≡ writing feed (told message.now) (length buffer.old) }
-    ensures bytes { buffer.new ≡ buffer-after result (told message.now) buffer.old }
+    ensures bytes { buffer.new ≡ buffer_after result (told message.now) buffer.old }
     ensures again { IfOk result (λ n. decoding feed (take n buffer.new) ≡ Ok (as_written (told message.now))) }
 {
     if !is_in(message, feed) {

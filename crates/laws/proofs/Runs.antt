@@ -2,7 +2,7 @@
 use Rattle.std.proofs.Common.{◌≡◌, ℕ, zero, suc, ◌+◌, ◌-◌, ◌≤◌, true, false, cond, ltb, List, [], ◌∷◌, ◌++◌, length, None, Ok, Err, Result, sym, refl, ap, ◌∙◌, subst, append_assoc, arith}
 use Rattle.capture.specs.declared.fault.CaptureFault.{CaptureFault}
 use Rattle.capture.specs.declared.fault.CaptureFault.TheVariants.{StartsPast}
-use Rattle.capture.specs.Index.{judged, message, messages, count as index-count}
+use Rattle.capture.specs.Index.{judged, message, messages, count as index_count}
 use Rattle.capture.proofs.Laid.{laid}
 use Rattle.wire.specs.declared.fault.WireFault.{WireFault}
 use Rattle.wire.specs.declared.message.Feed.TheVariants.{Depth}
@@ -150,7 +150,7 @@ module _ (a : Book) (capture : List ℕ) where
 
   module _ (start : ℕ) {h : List Msg} where
     -- the answer tells which messages were accepted
-    tells_which : (n : ℕ) → n ≡ index-count capture → (p : Played) → Came h start (n - start) p → Run a (played_in capture start p.0 ++ h) p.1
+    tells_which : (n : ℕ) → n ≡ index_count capture → (p : Played) → Came h start (n - start) p → Run a (played_in capture start p.0 ++ h) p.1
     tells_which n all p t = by_answer p.0 t.2
       where
         -- so many as the answer tells
@@ -158,7 +158,7 @@ module _ (a : Book) (capture : List ℕ) where
         these j e = subst (λ v. Run a (all_said (messages capture start v) ++ h) p.1) e t.1
 
         by_answer : (x : Result ℕ PlayFault) → Told start (n - start) t.0 x → Run a (played_in capture start x ++ h) p.1
-        by_answer (Ok k) e = these (index-count capture - start) (e ∙ ap (λ v. v - start) all)
+        by_answer (Ok k) e = these (index_count capture - start) (e ∙ ap (λ v. v - start) all)
         by_answer (Err (Message q f)) e = these (q - start) (omega arith)
         by_answer (Err (Index f)) e = absurd e
 

@@ -1,6 +1,6 @@
 -- Calls on an engine, and runs: what calls make of a new engine's book, and the messages that they accepted.
 use Rattle.std.specs.Prelude.{ℕ, ◌-◌, ◌≤◌, List, [], ◌∷◌, ◌++◌, Ok, Err, Result}
-use Rattle.capture.specs.Index.{count as index-count, messages}
+use Rattle.capture.specs.Index.{count as index_count, messages}
 use Rattle.wire.specs.declared.fault.WireFault.{WireFault}
 use Rattle.wire.specs.declared.message.Feed.TheVariants.{Depth}
 use Rattle.wire.specs.Table.{Row, Value}
@@ -55,7 +55,7 @@ fed_in ms (Err f) = []
 
 -- the messages that playing accepted, by its answer: all from the starting pair on, those before the refused one, or none
 abbrev pub played_in : List ℕ → ℕ → Result ℕ PlayFault → List Msg
-played_in capture start (Ok n) = all_said (messages capture start (index-count capture - start))
+played_in capture start (Ok n) = all_said (messages capture start (index_count capture - start))
 played_in capture start (Err (Message pair f)) = all_said (messages capture start (pair - start))
 played_in capture start (Err (Index f)) = []
 

@@ -2,7 +2,7 @@
 
 ghost use Rattle.std.specs.Prelude.{◌≡◌, ◌+◌, ◌≤◌, [], ◌∷◌, length, IfOk};
 ghost use Rattle.decode.specs.Decoding.{told_in};
-ghost use Rattle.lines.specs.Line.{decoded_text, refusal_text, line as line-text};
+ghost use Rattle.lines.specs.Line.{decoded_text, refusal_text, line as line_text};
 ghost use Rattle.lines.specs.Writing.{Puts, Lined};
 
 use crate::messages;
@@ -22,7 +22,7 @@ pub fn put_line(
     pair: usize,
     decoded: &Result<Message<'_>, WireFault>,
 ) -> Result<usize, TooShort>
-    ensures lined { Lined buf.old at (line-text pair (told_in decoded.now)) buf.new result }
+    ensures lined { Lined buf.old at (line_text pair (told_in decoded.now)) buf.new result }
     ensures bound { IfOk result (λ end. end ≤ length buf.old) }
 {
     if buf.len() < LINE || buf.len() - LINE < at {

@@ -1,7 +1,7 @@
 //! The last line of a listing.
 
 ghost use Rattle.std.specs.Prelude.{◌≡◌};
-ghost use Rattle.lines.specs.Line.{summary as summary-text};
+ghost use Rattle.lines.specs.Line.{summary as summary_text};
 ghost use Rattle.lines.specs.Writing.{Lined};
 
 use crate::line::LINE;
@@ -16,7 +16,7 @@ pub fn put_summary(
     refused: usize,
     differ: usize,
 ) -> Result<usize, TooShort>
-    ensures { Lined buf.old 0 (summary-text messages refused differ) buf.new result }
+    ensures { Lined buf.old 0 (summary_text messages refused differ) buf.new result }
 {
     if buf.len() < LINE {
         return Err(TooShort);

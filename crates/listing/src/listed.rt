@@ -1,7 +1,7 @@
 //! Listing a capture: its index is judged, and then its lines are written page by page, and at last a summary.
 
 ghost use Rattle.std.specs.Prelude.{◌≡◌, ◌+◌, ◌-◌, ◌≤◌, length};
-ghost use Rattle.capture.specs.Fault.{told as index-told};
+ghost use Rattle.capture.specs.Fault.{told as index_told};
 ghost use Rattle.listing.specs.Paging.{total, refusals, differences, page_lines, page_text};
 ghost use Rattle.lines.specs.Line.{summary};
 ghost use Rattle.lines.specs.Writing.{Lined};
@@ -70,7 +70,7 @@ impl<'a> Listing<'a> {
 
 /// Writes the line of a refused index to the front of the buffer, and answers how many bytes.
 pub fn put_index_fault(fault: CaptureFault, buf: &mut [u8]) -> Result<usize, TooShort>
-    ensures { Placed buf.old 0 (fault_line (index-told fault).0 (index-told fault).1 (index-told fault).2) buf.new result }
+    ensures { Placed buf.old 0 (fault_line (index_told fault).0 (index_told fault).1 (index_told fault).2) buf.new result }
 {
     put_fault_line(buf, fault.number(), fault.place(), fault.pair() as u64)
 }

@@ -4,7 +4,7 @@ use Rattle.std.proofs.lemmas.List.{get_or_default, length-set, set_comm}
 use Rattle.std.proofs.lemmas.Bool.{both_ways, cases_eq, cases_Bool, cases_lt, not-true, eq-eqb}
 use Rattle.std.proofs.lemmas.Bool.Decides.{nat_tests}
 use Rattle.std.specs.Option.{option_map}
-use Rattle.store.specs.Held.{at as value-at}
+use Rattle.store.specs.Held.{at as value_at}
 use Rattle.store.proofs.Maps.{same}
 use Rattle.loose.specs.Homes.{home, on_way, crosses, clear, SettledBut, Closing, stays, Ends, Ended, Mover}
 use Rattle.loose.specs.Slots.{gathered, distinct, holds, passes}
@@ -102,10 +102,10 @@ module _ {V : Type 0} where
       let swap : set (set ss hole (Some p)) i None ≡ set us hole (Some p) = set_comm ss hole i (Some p) None (λ e. ne (sym e)) in (
         ap gathered swap ∙ same 0 0 _ _ (rising (set us hole (Some p))) (rising ss)
             (λ q.
-            let a : value-at (gathered (set us hole (Some p))) q ≡ cond (eqb k q) (Some p.1) (value-at (gathered us) q)
+            let a : value_at (gathered (set us hole (Some p))) q ≡ cond (eqb k q) (Some p.1) (value_at (gathered us) q)
             = at_set k (Some p.1) us hole q lu own' new' in
-            let b : value-at (gathered us) q ≡ cond (eqb k q) None (value-at (gathered ss) q) = at_set k None ss i q li own new in
-            let here : k ≡ q → Some p.1 ≡ value-at (gathered ss) q
+            let b : value_at (gathered us) q ≡ cond (eqb k q) None (value_at (gathered ss) q) = at_set k None ss i q li own new in
+            let here : k ≡ q → Some p.1 ≡ value_at (gathered ss) q
             = λ e. at_held ss i q (Some p) d li (ap (λ m. holds (get_or ss i None) m) (sym e) ∙ held) (is ∙ get_or_default ss i None (Some p) li) in
             grind (arith, nat_tests)),
         ap distinct swap ∙ distinct_set k (Some p.1) us hole fits lu own' new' du,

@@ -3,7 +3,7 @@ use Rattle.std.proofs.Common.{◌≡◌, ℕ, ◌<◌, ◌≤◌, true, false, n
 use Rattle.std.proofs.lemmas.List.{get_or_default, get_or_past, length-set}
 use Rattle.std.proofs.lemmas.Bool.{and_from, and_parts, or_cases, or_left, or_right, not_from_false, ltb-true, both_ways, eqb-true, cases_eq, cases_Bool, cases_lt, not-true, not-false}
 use Rattle.std.proofs.lemmas.Bool.Decides.{nat_tests}
-use Rattle.store.specs.Held.{at as value-at}
+use Rattle.store.specs.Held.{at as value_at}
 use Rattle.loose.specs.Homes.{home, on_way, crosses, clear, Settled, SettledBut, Stops, Sought, Mover}
 use Rattle.loose.specs.Slots.{gathered, holds, passes, Blank}
 use Rattle.loose.specs.Gathers.{none_held, none_from}
@@ -40,7 +40,7 @@ module _ {V : Type 0} where
 
   -- a search that stops at a free slot: k is nowhere
   pub absent : (n : ℕ) (ss : List (Option (ℕ × V))) (k i : ℕ) → n ≡ length ss → Settled n ss → Sought n ss k (Some i) →
-      get_or ss i None ≡ None → value-at (gathered ss) k ≡ None
+      get_or ss i None ≡ None → value_at (gathered ss) k ≡ None
   absent n ss k i len ok at free =
       none_held ss k (λ j l. elim (cases_Bool (holds (get_or ss j None) k)) [
         | inr off ↦ off
@@ -56,7 +56,7 @@ module _ {V : Type 0} where
 
   -- a search that passes every slot: all are held, and none holds k
   pub all_held : (n : ℕ) (ss : List (Option (ℕ × V))) (k : ℕ) → n ≡ length ss → Sought n ss k None →
-      ((j : ℕ) → j < length ss → is_some (get_or ss j None) ≡ true) × (value-at (gathered ss) k ≡ None)
+      ((j : ℕ) → j < length ss → is_some (get_or ss j None) ≡ true) × (value_at (gathered ss) k ≡ None)
   all_held n ss k len all =
       (λ j l. (pass_held (get_or ss j None) k (all j (omega arith))).0, none_held ss k (λ j l. (pass_held (get_or ss j None) k (all j (omega arith))).1))
 

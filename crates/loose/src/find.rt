@@ -2,8 +2,8 @@
 
 ghost use Rattle.std.specs.Prelude.{◌≡◌, ◌≤◌, length};
 ghost use Rattle.std.specs.Option.{option_map};
-ghost use Rattle.loose.specs.Homes.{home as Home-of, Stops, Sought, Found, Tidy};
-ghost use Rattle.loose.specs.Slots.{passes as goes-past};
+ghost use Rattle.loose.specs.Homes.{home as home_of, Stops, Sought, Found, Tidy};
+ghost use Rattle.loose.specs.Slots.{passes as goes_past};
 
 use store::Slot;
 
@@ -61,7 +61,7 @@ fn stop<V: Copy>(slots: &[Slot<V>], low: usize, high: usize, key: u64) -> Option
 /// The slot, of `n`, where the search for `key` starts.
 pub(crate) fn home(key: u64, n: usize) -> usize
     requires { n ≤ 65536 }
-    ensures value { result ≡ Home-of key n }
+    ensures value { result ≡ home_of key n }
     ensures within { result ≤ n }
 {
     let mixed = key.wrapping_mul(0x9E37_79B9_7F4A_7C15) >> 32;
@@ -70,7 +70,7 @@ pub(crate) fn home(key: u64, n: usize) -> usize
 
 /// Whether a search for `key` goes on past `slot`.
 fn passes<V: Copy>(slot: Slot<V>, key: u64) -> bool
-    ensures { result ≡ goes-past slot key }
+    ensures { result ≡ goes_past slot key }
 {
     match slot {
         Some((held, _)) => held != key,

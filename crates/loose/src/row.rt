@@ -1,7 +1,7 @@
 //! The calls of a loose table, on slots with a count of those in use.
 
 ghost use Rattle.std.specs.Prelude.{◌≡◌};
-ghost use Rattle.store.specs.Held.{find as value-at, from, puts, put as after-put, changes, change as after-change, take_out, emptied};
+ghost use Rattle.store.specs.Held.{find as value_at, from, puts, put as after_put, changes, change as after_change, take_out, emptied};
 ghost use Rattle.loose.specs.Homes.{Found};
 ghost use Rattle.loose.specs.Rows.{held_by, Kept};
 
@@ -29,7 +29,7 @@ impl<'a, V: Copy> Row<'a, V> {
     /// The value under `key`.
     pub(crate) fn get(&self, key: u64) -> Option<V>
         requires { Kept self.now }
-        ensures { result ≡ value-at (held_by self.now) key }
+        ensures { result ≡ value_at (held_by self.now) key }
     {
         let slots = &self.slots[..];
         match find(slots, key) {
@@ -49,7 +49,7 @@ impl<'a, V: Copy> Row<'a, V> {
     pub(crate) fn put(&mut self, key: u64, value: V) -> Result<(), PutRefusal>
         requires { Kept self.old }
         ensures answer { result ≡ puts (held_by self.old) key }
-        ensures after { held_by self.new ≡ after-put (held_by self.old) key value }
+        ensures after { held_by self.new ≡ after_put (held_by self.old) key value }
         ensures kept { Kept self.new }
     {
         match self.find(key) {
@@ -67,7 +67,7 @@ impl<'a, V: Copy> Row<'a, V> {
     pub(crate) fn change(&mut self, key: u64, value: V) -> Result<(), Absent>
         requires { Kept self.old }
         ensures answer { result ≡ changes (held_by self.old) key }
-        ensures after { held_by self.new ≡ after-change (held_by self.old) key value }
+        ensures after { held_by self.new ≡ after_change (held_by self.old) key value }
         ensures kept { Kept self.new }
     {
         match self.find(key) {

@@ -1,7 +1,7 @@
 //! The calls of an ordered table, on slots with a count of those in use.
 
 ghost use Rattle.std.specs.Prelude.{◌≡◌, ◌<◌, ◌≤◌, MatchResult};
-ghost use Rattle.store.specs.Held.{find as value-at, from, puts, put as after-put, changes, change as after-change, take_out, emptied};
+ghost use Rattle.store.specs.Held.{find as value_at, from, puts, put as after_put, changes, change as after_change, take_out, emptied};
 ghost use Rattle.ordered.specs.Rows.{held_by, Kept};
 ghost use Rattle.ordered.specs.Slots.{place};
 
@@ -36,7 +36,7 @@ impl<'a, V: Copy> Row<'a, V> {
     /// The value under `key`.
     pub(crate) fn get(&self, key: u64) -> Option<V>
         requires { Kept self.now }
-        ensures { result ≡ value-at (held_by self.now) key }
+        ensures { result ≡ value_at (held_by self.now) key }
     {
         let held = &self.slots[..self.len];
         match find(held, key) {
@@ -59,7 +59,7 @@ impl<'a, V: Copy> Row<'a, V> {
     pub(crate) fn put(&mut self, key: u64, value: V) -> Result<(), PutRefusal>
         requires { Kept self.old }
         ensures answer { result ≡ puts (held_by self.old) key }
-        ensures after { held_by self.new ≡ after-put (held_by self.old) key value }
+        ensures after { held_by self.new ≡ after_put (held_by self.old) key value }
         ensures kept { Kept self.new }
     {
         let len = self.len;
@@ -81,7 +81,7 @@ impl<'a, V: Copy> Row<'a, V> {
     pub(crate) fn change(&mut self, key: u64, value: V) -> Result<(), Absent>
         requires { Kept self.old }
         ensures answer { result ≡ changes (held_by self.old) key }
-        ensures after { held_by self.new ≡ after-change (held_by self.old) key value }
+        ensures after { held_by self.new ≡ after_change (held_by self.old) key value }
         ensures kept { Kept self.new }
     {
         match self.find(key) {

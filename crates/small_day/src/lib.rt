@@ -4,7 +4,7 @@
 
 ghost use Rattle.std.specs.Prelude.{◌≡◌, ◌≤◌, length, IfOk};
 ghost use Rattle.small_day.specs.SmallDay.{Told};
-ghost use Rattle.small_day.specs.declared.DayError.TheVariants.{NoMemory as no-memory};
+ghost use Rattle.small_day.specs.declared.DayError.TheVariants.{NoMemory as no_memory};
 
 use book::fault::BookFault;
 use day::run;
@@ -22,7 +22,7 @@ pub enum DayError {
 }
 
 impl From<AllocError> for DayError {
-    ghost from_gives = { λ _ r. r ≡ no-memory };
+    ghost from_gives = { λ _ r. r ≡ no_memory };
 
     fn from(_error: AllocError) -> DayError {
         DayError::NoMemory

@@ -1,7 +1,7 @@
 //! A stock's line of the report.
 
 ghost use Rattle.std.specs.Prelude.{◌≡◌, ◌+◌, ◌≤◌, length, take};
-ghost use Rattle.text.specs.Line.{line as line-text, size, unfilled};
+ghost use Rattle.text.specs.Line.{line as line_text, size, unfilled};
 ghost use Rattle.text.specs.Placed.{Placed, written};
 
 use crate::TooShort;
@@ -19,7 +19,7 @@ pub struct Line {
 impl Line {
     /// How many bytes the line takes.
     pub fn width(&self) -> usize
-        ensures value { result ≡ length (line-text self.now) }
+        ensures value { result ≡ length (line_text self.now) }
         ensures sum { result ≡ size self.now }
         ensures bound { result ≤ 4 + 60 + length self.now.symbol }
     {
@@ -31,7 +31,7 @@ impl Line {
 
     /// Writes the line from `at` on, and answers where it ends.
     pub fn put(&self, buf: &mut [u8], at: usize) -> Result<usize, TooShort>
-        ensures { Placed buf.old at (line-text self.now) buf.new result }
+        ensures { Placed buf.old at (line_text self.now) buf.new result }
     {
         let needed = self.width();
         if buf.len() < needed || buf.len() - needed < at {
@@ -44,8 +44,8 @@ impl Line {
 /// Writes a line for which there is room, and answers where it ends.
 fn line_at(buf: &mut [u8], at: usize, line: Line) -> usize
     requires { at + size line ≤ length buf.old }
-    ensures end { result ≡ at + length (line-text line) }
-    ensures after { buf.new ≡ written buf.old at (line-text line) }
+    ensures end { result ≡ at + length (line_text line) }
+    ensures after { buf.new ≡ written buf.old at (line_text line) }
 {
     let symbol = &line.symbol[0..symbol_len(&line.symbol)];
     let at = number_at(buf, at, line.locate);

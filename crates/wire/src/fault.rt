@@ -2,7 +2,7 @@
 
 ghost use Rattle.std.specs.Prelude.{◌≡◌};
 ghost use Rattle.wire.specs.Fault.{told};
-ghost use Rattle.wire.specs.declared.fault.WireFault.TheVariants.{Bytes as bytes-refused, Fields as fields-refused};
+ghost use Rattle.wire.specs.declared.fault.WireFault.TheVariants.{Bytes as bytes_refused, Fields as fields_refused};
 
 /// Where a question is asked.
 #[derive(Clone, Copy, PartialEq, Eq)]
@@ -40,7 +40,7 @@ pub enum WireFault {
 }
 
 impl From<BytesFault> for WireFault {
-    ghost from_gives = { λ f w. w ≡ bytes-refused f };
+    ghost from_gives = { λ f w. w ≡ bytes_refused f };
 
     fn from(fault: BytesFault) -> WireFault {
         WireFault::Bytes(fault)
@@ -48,7 +48,7 @@ impl From<BytesFault> for WireFault {
 }
 
 impl From<FieldsFault> for WireFault {
-    ghost from_gives = { λ f w. w ≡ fields-refused f };
+    ghost from_gives = { λ f w. w ≡ fields_refused f };
 
     fn from(fault: FieldsFault) -> WireFault {
         WireFault::Fields(fault)

@@ -3,7 +3,7 @@
 ghost use Rattle.std.specs.Prelude.{◌≡◌, ◌*◌, ◌≤◌, is_some, nat_le};
 ghost use Rattle.wire.specs.Judging.{judged, verdict};
 ghost use Rattle.wire.specs.Table.{num, some, nought, within, figure};
-ghost use Rattle.wire.specs.declared.fault.FieldsFault.TheVariants.{UnlistedCode as unlisted, OverLimit as over-limit};
+ghost use Rattle.wire.specs.declared.fault.FieldsFault.TheVariants.{UnlistedCode as unlisted, OverLimit as over_limit};
 
 use crate::fault::FieldsFault;
 
@@ -75,7 +75,7 @@ pub(crate) fn quoted_within(price: u64, place: usize) -> Result<(), FieldsFault>
 // Question 8: is price times shares, both within bounds, within its limit?
 pub(crate) fn product_within(price: u64, shares: u32, place: usize) -> Result<(), FieldsFault>
     requires { (price ≤ 2000000000) × (shares ≤ 1000000) }
-    ensures { result ≡ verdict (nat_le (price * shares) 100000000000000) (over-limit place) }
+    ensures { result ≡ verdict (nat_le (price * shares) 100000000000000) (over_limit place) }
 {
     if price * shares as u64 <= 100_000_000_000_000 {
         Ok(())

@@ -6,8 +6,8 @@ use Rattle.wire.specs.declared.fault.WireFault.TheVariants.{Bytes}
 use Rattle.wire.specs.Layout.{digits, bytes_of}
 use Rattle.wire.specs.Table.{figure, text, row_S, row_R, row_A, row_E}
 use Rattle.book.specs.declared.fault.BookFault.TheVariants.{TooManyShares}
-use Rattle.book.specs.declared.fault.FeedFault.TheVariants as feed-fault
-use Rattle.book.specs.declared.fault.PlayFault.TheVariants as play-fault
+use Rattle.book.specs.declared.fault.FeedFault.TheVariants as feed_fault
+use Rattle.book.specs.declared.fault.PlayFault.TheVariants as play_fault
 use Rattle.book.specs.Feed.{fed, count}
 use Rattle.book.specs.Play.{played}
 use Rattle.book.specs.Quote.{quote}
@@ -64,8 +64,8 @@ at_three = when at_last (plays capture 0 ∷ feeds [] ∷ feeds bytes_O ∷ [])
 
 -- what the calls answer, which messages were accepted, and what is read
 pub record ARun : Type 0 where
-  pub empty_refused : count (fed (book_of at_two) []) ≡ Err (feed-fault.Wire (Bytes Empty))
-  pub third_refused : (played (book_of at_two) capture 0).0 ≡ Err (play-fault.Message 2 (feed-fault.Book TooManyShares))
+  pub empty_refused : count (fed (book_of at_two) []) ≡ Err (feed_fault.Wire (Bytes Empty))
+  pub third_refused : (played (book_of at_two) capture 0).0 ≡ Err (play_fault.Message 2 (feed_fault.Book TooManyShares))
   pub fourth_counted : count (fed (book_of at_three) bytes_E40) ≡ Ok 4
   pub accepted : history at_last ≡ execute_40 ∷ add_7 ∷ list_1 ∷ event_O ∷ []
   pub open_before : (sums_at at_three 1).open_shares ≡ 100
