@@ -5,7 +5,8 @@ usage: python3 tools/respell.py [FOLDER]      FOLDER is the top of a checkout; w
 
 Words are joined by an underscore, and types are in camel case; a dash stays where it joins the names of two functions, as in
 `length-write`. Run it once, right after the toolchain's port.py, and before any edit by hand: it turns the clauses of src/, the files
-of specs/ and proofs/, the must-fail edits and the names between backquotes in README.md and docs/. Functions of src/ keep their names.
+of specs/ and proofs/, the must-fail edits and the names between backquotes in README.md and docs/, but for docs/PORT.md, which tells
+older names. Functions of src/ keep theirs.
 """
 
 import os
@@ -633,7 +634,7 @@ def turned(path, text):
 
 def files(top):
     for name in sorted(os.listdir(os.path.join(top, "docs"))):
-        if name.endswith(".md"):
+        if name.endswith(".md") and name != "PORT.md":
             yield os.path.join(top, "docs", name)
     yield os.path.join(top, "README.md")
     for folder, dirs, names in os.walk(os.path.join(top, "crates")):

@@ -5,7 +5,6 @@ use engine::making::Engine;
 use loose::Loose;
 use ordered::Ordered;
 use std::process::Abort;
-use std::test::Fail;
 use store::Store;
 
 /// Transmission starts, and the stocks A and B enter under 1 and 2.
@@ -68,20 +67,14 @@ fn quotes<S: Store<Stock>, O: Store<Order>, M: Store<Trade>>(
 fn empty<S: Store<Stock>, O: Store<Order>, M: Store<Trade>>(
     rt: &impl Abort,
     engine: &mut Engine<S, O, M>,
-) -> Result<(), Fail> {
+) {
     assert!(rt; engine.feed(START).is_ok());
     assert!(rt; engine.feed(STOCK_A).is_ok());
     assert!(rt; engine.feed(STOCK_B).is_ok());
     assert!(rt; quotes(engine, 1, None, None));
     match engine.quote(3) {
-        Ok(_) => {
-            assert!(rt; false);
-            Ok(())
-        },
-        Err(fault) => {
-            assert!(rt; fault.number() == 12 && fault.place() == 0);
-            Ok(())
-        },
+        Ok(_) => assert!(rt; false),
+        Err(fault) => assert!(rt; fault.number() == 12 && fault.place() == 0),
     }
 }
 
@@ -126,16 +119,15 @@ fn a_day<S: Store<Stock> + Drop, O: Store<Order> + Drop, M: Store<Trade> + Drop>
     stocks: S,
     orders: O,
     trades: M,
-) -> Result<(), Fail> {
+) {
     let mut engine = Engine::new(stocks, orders, trades);
-    empty(rt, &mut engine)?;
+    empty(rt, &mut engine);
     filled(rt, &mut engine);
     moved(rt, &mut engine);
-    Ok(())
 }
 
 #[test]
-fn quotes_over_ordered_tables(rt: HostRuntime) -> Result<(), Fail> {
+fn quotes_over_ordered_tables(rt: HostRuntime) {
     let mut stocks = [NO_STOCK; 2];
     let mut orders = [NO_ORDER; 10];
     let mut trades = [NO_TRADE; 1];
@@ -144,11 +136,11 @@ fn quotes_over_ordered_tables(rt: HostRuntime) -> Result<(), Fail> {
         Ordered::over(&mut stocks),
         Ordered::over(&mut orders),
         Ordered::over(&mut trades),
-    )
+    );
 }
 
 #[test]
-fn quotes_over_loose_tables(rt: HostRuntime) -> Result<(), Fail> {
+fn quotes_over_loose_tables(rt: HostRuntime) {
     let mut stocks = [NO_STOCK; 2];
     let mut orders = [NO_ORDER; 10];
     let mut trades = [NO_TRADE; 1];
@@ -157,5 +149,5 @@ fn quotes_over_loose_tables(rt: HostRuntime) -> Result<(), Fail> {
         Loose::over(&mut stocks),
         Loose::over(&mut orders),
         Loose::over(&mut trades),
-    )
+    );
 }
