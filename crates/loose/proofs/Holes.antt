@@ -1,16 +1,16 @@
 -- How a hole that a pair leaves is closed: which pair moves into it, and what that leaves.
 use Rattle.std.proofs.Common.{◌≡◌, ℕ, zero, suc, ◌+◌, ◌^◌, ◌<◌, true, false, cond, eqb, List, [], ◌∷◌, length, get_or, set, is_some, Some, None, Option, sym, refl, ap, ◌∙◌, subst, inl, inr, arith, get_or-set_other, get_or-set_same}
 use Rattle.std.proofs.lemmas.List.{get_or_default, length-set, set_comm}
-use Rattle.std.proofs.lemmas.Bool.{both_ways, cases_eq, cases_Bool, cases_lt, not-true, eq-eqb}
+use Rattle.std.proofs.lemmas.Bool.{both_ways, cases_eq, cases_Bool, not-true, not-false, eq-eqb}
 use Rattle.std.proofs.lemmas.Bool.Decides.{nat_tests}
-use Rattle.std.specs.Option.{option_map}
+use Rattle.std.specs.Option.{option_map, option_and}
 use Rattle.store.specs.Held.{at as value_at}
 use Rattle.store.proofs.Maps.{same}
-use Rattle.loose.specs.Homes.{home, on_way, crosses, clear, SettledBut, Closing, stays, Ends, Ended, Mover}
+use Rattle.loose.specs.Homes.{home, on_way, crosses, clear, SettledBut, Closing, stays, Ended, Mover}
 use Rattle.loose.specs.Slots.{gathered, distinct, holds, passes}
 use Rattle.loose.specs.Gathers.{rising, at_held, at_set, distinct_set, distinct_parts, alone, alone_free, not_none}
-use Rattle.loose.proofs.Homes.{clear_way, crosses_some, settled_move, own_held}
-use Rattle.loose.proofs.Ways.{home_le, either_way, way_high, way_low, way_on, far, far_less}
+use Rattle.loose.proofs.Homes.{clear_way, crosses_some, settled_move, own_held, free_here}
+use Rattle.loose.proofs.Ways.{home_le, either_way, way_on, far, far_less}
 
 module _ {V : Type 0} where
   stays_off : (n : ℕ) (s : Option (ℕ × V)) (i hole : ℕ) → stays n s i hole ≡ true → crosses n s i hole ≡ false
@@ -33,33 +33,6 @@ module _ {V : Type 0} where
         (clear_way n ss j f (ok j f ne) lt (crosses_on n (get_or ss j None) j hole f over after)))
   ]
 
-  -- the search behind the hole, in its two ranges
-  pub ended_high : (n : ℕ) (ss : List (Option (ℕ × V))) (hole i : ℕ) → Ends n ss (hole + 1) n hole (Some i) → Ended n ss hole (Some i)
-  ended_high n ss hole i at =
-      let low = at.0 in (
-        at.1,
-        (λ e. omega arith),
-        at.2,
-        λ j l on.
-            let way = way_high (suc hole) j i (omega arith) on in
-            at.3 j (omega arith) way.1,
-      )
-
-  pub ended_low : (n : ℕ) (ss : List (Option (ℕ × V))) (hole : ℕ) (r : Option ℕ) → hole < n → Ends n ss (hole + 1) n hole None → Ends n ss 0 hole hole r →
-      Ended n ss hole r
-  ended_low n ss hole None lt high low =
-      λ j l ne. elim (cases_lt j hole) [ inl below ↦ low j (omega arith) below | inr above ↦ high j (omega arith) l ]
-  ended_low n ss hole (Some i) lt high at =
-      let below = at.1 in (
-        omega arith,
-        (λ e. omega arith),
-        at.2,
-        λ j l on. elim (cases_lt j (suc hole)) [
-          | inl under ↦ at.3 j (omega arith) (way_low (suc hole) j i (omega arith) on under)
-          | inr above ↦ high j (omega arith) l
-        ],
-      )
-
   -- what that search's end says
   pub mover_free : (n : ℕ) (ss : List (Option (ℕ × V))) (hole i : ℕ) → SettledBut n ss hole → Ended n ss hole (Some i) →
       get_or ss i None ≡ None → Mover n ss hole None
@@ -70,6 +43,13 @@ module _ {V : Type 0} where
       | inr ne ↦ stays_off n (get_or ss j None) j hole (at.3 j l (either_way (suc hole) j i ne off))
     ]
   ]
+
+  pub mover_held : (ss : List (Option (ℕ × V))) (hole i : ℕ) → Closing ss hole → Ended (length ss) ss hole (Some i) → (x : Option (ℕ × V)) (r : Option ℕ) →
+      x ≡ get_or ss i x → r ≡ option_and x (Some i) → Mover (length ss) ss hole r
+  mover_held ss hole i was at None r is e = rw e (mover_free (length ss) ss hole i was.4 at (free_here ss i None at.0 is refl))
+  mover_held ss hole i was at (Some p) r is e =
+      let here : get_or ss i None ≡ Some p = get_or_default ss i None (Some p) at.0 ∙ sym is in
+      rw (e, here) (at.0, not-false (on_way (home p.0 (length ss)) hole i) (rw here at at.2))
 
   held_fits : (ss : List (Option (ℕ × V))) (i : ℕ) (p : ℕ × V) → distinct ss ≡ true → i < length ss → Some p ≡ get_or ss i None → p.0 < 2 ^ 64
   held_fits [] i p d l is = absurd (omega arith)

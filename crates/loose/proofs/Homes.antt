@@ -1,13 +1,13 @@
 -- What a search from a key's home on finds, and what a write into a slot leaves settled.
-use Rattle.std.proofs.Common.{◌≡◌, ℕ, ◌<◌, ◌≤◌, true, false, not, ◌&&◌, eqb, ltb, ◌⊎◌, List, length, get_or, set, is_some, Some, None, Option, sym, refl, ap, ◌∙◌, inl, inr, arith, get_or-set_other, get_or-set_same}
+use Rattle.std.proofs.Common.{◌≡◌, ℕ, ◌<◌, true, false, not, ◌&&◌, eqb, ltb, ◌⊎◌, List, length, get_or, set, is_some, Some, None, Option, sym, refl, ap, ◌∙◌, inl, inr, arith, get_or-set_other, get_or-set_same}
 use Rattle.std.proofs.lemmas.List.{get_or_default, get_or_past, length-set}
 use Rattle.std.proofs.lemmas.Bool.{and_from, and_parts, or_cases, or_left, or_right, not_from_false, ltb-true, both_ways, eqb-true, cases_eq, cases_Bool, cases_lt, not-true, not-false}
 use Rattle.std.proofs.lemmas.Bool.Decides.{nat_tests}
 use Rattle.store.specs.Held.{at as value_at}
-use Rattle.loose.specs.Homes.{home, on_way, crosses, clear, Settled, SettledBut, Stops, Sought, Mover}
+use Rattle.loose.specs.Homes.{home, on_way, crosses, clear, Settled, SettledBut, Sought, Mover}
 use Rattle.loose.specs.Slots.{gathered, holds, passes, Blank}
 use Rattle.loose.specs.Gathers.{none_held, none_from}
-use Rattle.loose.proofs.Ways.{either_way, way_high, way_low, way_back}
+use Rattle.loose.proofs.Ways.{either_way, way_back}
 
 module _ {V : Type 0} where
   -- where a search for k stops, the slot is free or holds k
@@ -59,29 +59,6 @@ module _ {V : Type 0} where
       ((j : ℕ) → j < length ss → is_some (get_or ss j None) ≡ true) × (value_at (gathered ss) k ≡ None)
   all_held n ss k len all =
       (λ j l. (pass_held (get_or ss j None) k (all j (omega arith))).0, none_held ss k (λ j l. (pass_held (get_or ss j None) k (all j (omega arith))).1))
-
-  -- the search from home on, in its two ranges
-  pub sought_high : (n : ℕ) (ss : List (Option (ℕ × V))) (k h i : ℕ) → h ≡ home k n → Stops ss h n k (Some i) → Sought n ss k (Some i)
-  sought_high n ss k h i e at = (
-    at.1,
-    at.2,
-    λ j l on.
-        let way = way_high (home k n) j i (omega (arith, at.0)) on in
-        at.3 j (omega arith) way.1,
-  )
-
-  pub sought_low : (n : ℕ) (ss : List (Option (ℕ × V))) (k h : ℕ) (r : Option ℕ) → h ≡ home k n → h ≤ n → Stops ss h n k None → Stops ss 0 h k r →
-      Sought n ss k r
-  sought_low n ss k h None e le high low =
-      λ j l. elim (cases_lt j h) [ inl lt ↦ low j (omega arith) lt | inr ge ↦ high j ge l ]
-  sought_low n ss k h (Some i) e le high at = (
-    omega (arith, at.1),
-    at.2,
-    λ j l on. elim (cases_lt j h) [
-      | inl lt ↦ at.3 j (omega arith) (way_low (home k n) j i (omega (arith, at.1)) on (omega arith))
-      | inr ge ↦ high j ge l
-    ],
-  )
 
   -- what lies in slot j once x lies in slot i
   set_here : (ss : List (Option (ℕ × V))) (i j : ℕ) (x : Option (ℕ × V)) → i < length ss → j ≡ i → get_or (set ss i x) j None ≡ x

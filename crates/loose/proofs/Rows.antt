@@ -1,9 +1,8 @@
 -- What a call of a row makes of its slots.
-use Rattle.std.proofs.Common.{◌≡◌, ℕ, ◌^◌, ◌<◌, ◌≤◌, true, List, [], length, get_or, set, Some, None, Option, refl, ap, ◌∙◌, arith, get_or-set_same}
+use Rattle.std.proofs.Common.{◌≡◌, ℕ, ◌^◌, ◌<◌, ◌≤◌, true, List, [], length, get_or, set, Some, None, Option, Ok, Err, Result, subst, refl, ap, ◌∙◌, arith, get_or-set_same}
 use Rattle.std.proofs.lemmas.List.{length-set}
+use Rattle.std.specs.Result.{result_ok}
 use Rattle.store.specs.Held.{at, write}
-use Rattle.loose.specs.declared.find.Spot.{Spot}
-use Rattle.loose.specs.declared.find.Spot.TheVariants.{Held, Free, Full}
 use Rattle.loose.specs.Homes.{clear, Sought, Found, Tidy, Closing}
 use Rattle.loose.specs.Slots.{gathered, holds, Blank}
 use Rattle.loose.specs.Gathers.{gathered_none, gathered_set, distinct_set, alone}
@@ -44,7 +43,12 @@ module _ {V : Type 0} where
   emptied ss blank small = let none = gathered_none ss blank in ((small, none.1, settled_none ss blank), none.0)
 
   -- a key whose slot is not found is not there
-  pub not_found : (ss : List (Option (ℕ × V))) (k : ℕ) (r : Spot) → Found ss k r → ((i : ℕ) → r ≡ Held i → ⊥) → at (gathered ss) k ≡ None
-  not_found ss k (Held i) is not = absurd (not i refl)
-  not_found ss k (Free i) is not = is.0
-  not_found ss k Full is not = is.0
+  pub not_found : (ss : List (Option (ℕ × V))) (k : ℕ) (r : Result ℕ (Option ℕ)) → Found ss k r → ((i : ℕ) → r ≡ Ok i → ⊥) → at (gathered ss) k ≡ None
+  not_found ss k (Ok i) is not = absurd (not i refl)
+  not_found ss k (Err (Some i)) is not = is.0
+  not_found ss k (Err None) is not = is.0
+
+  -- what is found, where the search told the slot of the key
+  pub found_ok : (ss : List (Option (ℕ × V))) (k i : ℕ) (r : Result ℕ (Option ℕ)) → Some i ≡ result_ok r → Found ss k r → Found ss k (Ok i)
+  found_ok ss k i (Ok j) e is = let same : j ≡ i = cc in let P : ℕ → Type 0 = λ m. Found ss k (Ok m) in subst P same is
+  found_ok ss k i (Err f) e is = cc

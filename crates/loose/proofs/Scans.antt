@@ -1,10 +1,13 @@
 -- The smallest key at or above a key, slot by slot from the last on.
-use Rattle.std.proofs.Common.{◌≡◌, ℕ, ◌+◌, ◌-◌, ◌<◌, ◌≤◌, cond, ◌||◌, ltb, List, [], ◌∷◌, length, get_or, drop, Some, None, Option, sym, refl, ap, ◌∙◌, inl, inr, arith}
-use Rattle.std.proofs.lemmas.List.{drop_more}
+use Rattle.std.proofs.Common.{◌≡◌, ℕ, true, false, MatchOption, ◌<◌, ◌≤◌, cond, ◌||◌, ltb, List, [], ◌∷◌, get_or, reverse, Some, None, Option, refl, ap, ◌∙◌, inl, inr, arith}
+use Rattle.std.proofs.lemmas.List.Sums.{fold-append}
+use mathlib.Core.List.{reverse-cons}
+use Rattle.std.specs.List.{fold}
 use Rattle.std.proofs.lemmas.Bool.{cases_order, cases_lt, lt-ltb, le-ltb, lt-leb, eq-eqb, ne_eqb}
 use Rattle.std.proofs.lemmas.Bool.Decides.{nat_tests}
 use Rattle.store.specs.Held.{from, write}
-use Rattle.loose.specs.Slots.{gathered, closer}
+use Rattle.loose.specs.Homes.{Stops, stays, Ends}
+use Rattle.loose.specs.Slots.{gathered, closer, passes}
 
 module _ {V : Type 0} where
   closer_below : (best : Option (ℕ × V)) (p : ℕ × V) (k : ℕ) → p.0 < k → closer best (Some p) k ≡ best
@@ -33,14 +36,24 @@ module _ {V : Type 0} where
   from_slot ss None k = refl
   from_slot ss (Some p) k = from-write (gathered ss) p k
 
-  -- one slot more, from the end on
-  drop_step : (ss : List (Option (ℕ × V))) (i : ℕ) (x : Option (ℕ × V)) → 0 < i → i ≤ length ss → x ≡ get_or ss (i - 1) x →
-      drop (i - 1) ss ≡ x ∷ drop i ss
-  drop_step ss i x low high e =
-      let back : i - 1 + 1 ≡ i = omega arith in
-      drop_more ss (i - 1) x (omega arith) ∙ ap (λ j. get_or ss (i - 1) x ∷ drop j ss) back ∙ ap (λ y. y ∷ drop i ss) (sym e)
+  -- all slots, from the last on
+  pub from_fold : (ss : List (Option (ℕ × V))) (k : ℕ) → fold (λ best s. closer best s k) None (reverse ss) ≡ from (gathered ss) k
+  from_fold [] k = refl
+  from_fold (s ∷ ss) k =
+      ap (fold (λ best s. closer best s k) None) (reverse-cons s ss)
+      ∙ fold-append (λ best s. closer best s k) None (reverse ss) (s ∷ [])
+      ∙ ap (λ best. closer best s k) (from_fold ss k) ∙ from_slot ss s k
 
-  pub from_step : (ss : List (Option (ℕ × V))) (i k : ℕ) (x best : Option (ℕ × V)) → 0 < i → i ≤ length ss → x ≡ get_or ss (i - 1) x →
-      best ≡ from (gathered (drop i ss)) k → closer best x k ≡ from (gathered (drop (i - 1) ss)) k
-  from_step ss i k x best low high e is =
-      ap (λ b. closer b x k) is ∙ from_slot (drop i ss) x k ∙ ap (λ ds. from (gathered ds) k) (sym (drop_step ss i x low high e))
+module _ {V : Type 0} (ss : List (Option (ℕ × V))) (low high k : ℕ) where
+  -- the first place in a range where a search stops
+  pub stops_from : (r : Option ℕ) → MatchOption r ((i : ℕ) → low ≤ i → i < high → passes (get_or ss i None) k ≡ true)
+      (λ i. (low ≤ i) × (i < high) × (passes (get_or ss i None) k ≡ false) × ((j : ℕ) → low ≤ j → j < i → passes (get_or ss j None) k ≡ true)) → Stops ss low high k r
+  stops_from None h = h
+  stops_from (Some i) h = h
+
+-- and where the search behind a hole ends
+module _ {V : Type 0} (n : ℕ) (ss : List (Option (ℕ × V))) (low high hole : ℕ) where
+  pub ends_from : (r : Option ℕ) → MatchOption r ((i : ℕ) → low ≤ i → i < high → stays n (get_or ss i None) i hole ≡ true)
+      (λ i. (low ≤ i) × (i < high) × (stays n (get_or ss i None) i hole ≡ false) × ((j : ℕ) → low ≤ j → j < i → stays n (get_or ss j None) j hole ≡ true)) → Ends n ss low high hole r
+  ends_from None h = h
+  ends_from (Some i) h = h

@@ -14,13 +14,6 @@ home_le k n =
 pub either_way : (h i j : ℕ) → (i ≡ j → ⊥) → on_way h j i ≡ false → on_way h i j ≡ true
 either_way h i j ne off = grind (arith, nat_tests)
 
--- the way up to i, in the two ranges in which it is searched
-pub way_high : (h j i : ℕ) → h ≤ i → on_way h j i ≡ true → (h ≤ j) × (j < i)
-way_high h j i le on = (grind (arith, nat_tests), grind (arith, nat_tests))
-
-pub way_low : (h j i : ℕ) → i < h → on_way h j i ≡ true → j < h → j < i
-way_low h j i lt on below = grind (arith, nat_tests)
-
 -- a way that crosses the hole goes on to each slot between it and its end
 pub way_on : (h hole f j : ℕ) → on_way h hole j ≡ true → on_way (suc hole) f j ≡ true → on_way h f j ≡ true
 way_on h hole f j over after = grind (arith, nat_tests)

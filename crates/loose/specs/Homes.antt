@@ -1,8 +1,6 @@
 -- Where pairs lie in slots that are searched from a key's home on, and past the last slot from the first.
-use Rattle.std.specs.Prelude.{◌≡◌, ℕ, suc, ◌*◌, ◌/◌, ◌%◌, ◌^◌, ◌<◌, ◌≤◌, Bool, true, false, cond, not, ◌&&◌, ◌||◌, List, length, is_some, Some, None, Option, ◌≢◌, nat_le, nat_lt, slice_index_or}
+use Rattle.std.specs.Prelude.{◌≡◌, ℕ, suc, ◌*◌, ◌/◌, ◌%◌, ◌^◌, ◌<◌, ◌≤◌, Bool, true, false, cond, not, ◌&&◌, ◌||◌, List, length, is_some, Some, None, Option, Ok, Err, Result, ◌≢◌, nat_le, nat_lt, slice_index_or}
 use Rattle.store.specs.Held.{at}
-use Rattle.loose.specs.declared.find.Spot.{Spot}
-use Rattle.loose.specs.declared.find.Spot.TheVariants.{Held, Free, Full}
 use Rattle.loose.specs.Slots.{gathered, distinct, holds, passes}
 
 -- the home of key k among n slots: its upper bits after a multiplication by 2^64 over the golden ratio, scaled to n
@@ -52,10 +50,10 @@ module _ {V : Type 0} where
       × ((j : ℕ) → j < n → on_way (home k n) j i ≡ true → passes (slice_index_or ss j None) k ≡ true)
 
   -- the slot of k, or else the free one where it would go, if there is one: there a search for k stops
-  abbrev pub Found : List (Option (ℕ × V)) → ℕ → Spot → Type 0
-  Found ss k (Held i) = (holds (slice_index_or ss i None) k ≡ true) × Sought (length ss) ss k (Some i)
-  Found ss k (Free i) = (at (gathered ss) k ≡ None) × (slice_index_or ss i None ≡ None) × Sought (length ss) ss k (Some i)
-  Found ss k Full = (at (gathered ss) k ≡ None) × (length (gathered ss) ≡ length ss)
+  abbrev pub Found : List (Option (ℕ × V)) → ℕ → Result ℕ (Option ℕ) → Type 0
+  Found ss k (Ok i) = (holds (slice_index_or ss i None) k ≡ true) × Sought (length ss) ss k (Some i)
+  Found ss k (Err (Some i)) = (at (gathered ss) k ≡ None) × (slice_index_or ss i None ≡ None) × Sought (length ss) ss k (Some i)
+  Found ss k (Err None) = (at (gathered ss) k ≡ None) × (length (gathered ss) ≡ length ss)
 
   -- whether slot i, of n, holds a pair that has not the hole on its way
   abbrev pub stays : ℕ → Option (ℕ × V) → ℕ → ℕ → Bool

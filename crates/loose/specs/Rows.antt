@@ -1,18 +1,12 @@
--- What a row of slots holds.
-use Rattle.std.specs.Prelude.{◌≡◌, ℕ, min, [], length}
+-- What slots hold as a table.
+use Rattle.std.specs.Prelude.{ℕ, min, List, [], length, Option}
 use Rattle.store.specs.Held.{Held}
-use Rattle.loose.specs.Homes.{Tidy}
 use Rattle.loose.specs.Slots.{gathered}
-use Rattle.loose.specs.declared.row.Row.{Row}
 
 module _ {V : Type 0} where
   -- the pairs in the slots, and a place for each slot
-  abbrev pub held_by : Row V → Held V
-  held_by row = record { pairs = gathered row.slots.now; places = length row.slots.now }
-
-  -- what a row keeps: tidy slots, and how many of them hold a pair
-  abbrev pub Kept : Row V → Type 0
-  Kept row = Tidy row.slots.now × (row.len ≡ length (gathered row.slots.now))
+  abbrev pub held_by : List (Option (ℕ × V)) → Held V
+  held_by slots = record { pairs = gathered slots; places = length slots }
 
   -- no pair, over n slots
   abbrev pub fresh : ℕ → Held V

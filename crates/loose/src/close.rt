@@ -7,13 +7,15 @@ ghost use Rattle.loose.specs.Slots.{gathered};
 use crate::find::home;
 use store::Slot;
 
-/// Closes the hole at slot `freed`, by moving pairs that have it on their way.
-pub(crate) fn close<V: Copy>(slots: &mut [Slot<V>], freed: usize)
-    requires { Closing slots.old freed }
-    ensures same { gathered slots.new ≡ gathered slots.old }
+/// Frees slot `at`, and closes the hole by moving pairs that have it on their way.
+pub(crate) fn free<V: Copy>(slots: &mut [Slot<V>], at: usize)
+    requires within { at < length slots.old }
+    requires closing { Closing (slice_set slots.old at None) at }
+    ensures same { gathered slots.new ≡ gathered (slice_set slots.old at None) }
     ensures tidy { Tidy slots.new }
 {
-    let mut hole = freed;
+    slots[at] = None;
+    let mut hole = at;
     while let Some(from) = mover(slots, hole) {
         shift(slots, from, hole);
         hole = from;
@@ -26,7 +28,7 @@ fn mover<V: Copy>(slots: &[Slot<V>], hole: usize) -> Option<usize>
     ensures { Mover (length slots.now) slots.now hole result }
 {
     let at = behind(slots, hole)?;
-    if slots[at].is_some() { Some(at) } else { None }
+    slots[at].and(Some(at))
 }
 
 /// The first slot behind `hole` that is free or holds a pair with `hole` on its way.
@@ -35,10 +37,7 @@ fn behind<V: Copy>(slots: &[Slot<V>], hole: usize) -> Option<usize>
     requires within { hole < length slots.now }
     ensures { Ended (length slots.now) slots.now hole result }
 {
-    match end(slots, hole + 1, slots.len(), hole) {
-        Some(at) => Some(at),
-        None => end(slots, 0, hole, hole),
-    }
+    end(slots, hole + 1, slots.len(), hole).or_else(|| end(slots, 0, hole, hole))
 }
 
 /// The first slot in `low..high` that is free or holds a pair with `hole` on its way.
@@ -47,23 +46,16 @@ fn end<V: Copy>(slots: &[Slot<V>], low: usize, high: usize, hole: usize) -> Opti
     requires within { high ≤ length slots.now }
     ensures { Ends (length slots.now) slots.now low high hole result }
 {
-    for i in low..high {
-        if !stays(slots[i], slots.len(), i, hole) {
-            return Some(i);
-        }
-    }
-    None
+    (low..high).find(|i| !stays(slots, *i, hole))
 }
 
-/// Whether slot `i`, of `n`, holds a pair that has not `hole` on its way.
-fn stays<V: Copy>(slot: Slot<V>, n: usize, i: usize, hole: usize) -> bool
-    requires { n ≤ 65536 }
-    ensures { result ≡ stays_put n slot i hole }
+/// Whether slot `i` holds a pair that has not `hole` on its way.
+fn stays<V: Copy>(slots: &[Slot<V>], i: usize, hole: usize) -> bool
+    requires room { length slots.now ≤ 65536 }
+    requires within { i < length slots.now }
+    ensures { result ≡ stays_put (length slots.now) (slice_index_or slots.now i None) i hole }
 {
-    match slot {
-        Some((key, _)) => !crosses(home(key, n), hole, i),
-        None => false,
-    }
+    slots[i].is_some_and(|(key, _)| !crosses(home(key, slots.len()), hole, i))
 }
 
 /// Whether slot `j` lies on the way from slot `h` to slot `i`, where `i` itself does not.

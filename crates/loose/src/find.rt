@@ -1,35 +1,23 @@
 //! The search for a key from its home on, and past the last slot from the first.
 
-ghost use Rattle.std.specs.Prelude.{◌≡◌, ◌≤◌, length};
-ghost use Rattle.std.specs.Option.{option_map};
+ghost use Rattle.std.specs.Prelude.{◌≡◌, ◌<◌, ◌≤◌, length, None, slice_index_or};
 ghost use Rattle.loose.specs.Homes.{home as home_of, Stops, Sought, Found, Tidy};
 ghost use Rattle.loose.specs.Slots.{passes as goes_past};
 
 use store::Slot;
 
-/// Where a search ends.
-#[derive(Clone, Copy)]
-pub(crate) enum Spot {
-    /// The slot that holds the key.
-    Held(usize),
-    /// The free slot where the key, which is not there, would go.
-    Free(usize),
-    /// The key is not there, and no slot is free.
-    Full,
-}
-
 /// The slot of `key`, or else the free one where it would go, if there is one.
-pub(crate) fn find<V: Copy>(slots: &[Slot<V>], key: u64) -> Spot
+pub(crate) fn find<V: Copy>(slots: &[Slot<V>], key: u64) -> Result<usize, Option<usize>>
     requires { Tidy slots.now }
     ensures { Found slots.now key result }
 {
-    match seek(slots, key) {
-        Some(at) => if slots[at].is_some() {
-            Spot::Held(at)
-        } else {
-            Spot::Free(at)
-        },
-        None => Spot::Full,
+    let Some(at) = seek(slots, key) else {
+        return Err(None);
+    };
+    if slots[at].is_some() {
+        Ok(at)
+    } else {
+        Err(Some(at))
     }
 }
 
@@ -39,23 +27,17 @@ fn seek<V: Copy>(slots: &[Slot<V>], key: u64) -> Option<usize>
     ensures { Sought (length slots.now) slots.now key result }
 {
     let start = home(key, slots.len());
-    match stop(slots, start, slots.len(), key) {
-        Some(at) => Some(at),
-        None => stop(slots, 0, start, key),
-    }
+    stop(slots, start, slots.len(), key).or_else(|| stop(slots, 0, start, key))
 }
 
+// `stop` and `seek` have their like in the search for a pair to move: each is a line of std's with a test of its own.
+// Both ask for at most 65,536 slots, which the type says: while a hole is open they are lent out of it.
 /// The first slot in `low..high` that is free or holds `key`.
 fn stop<V: Copy>(slots: &[Slot<V>], low: usize, high: usize, key: u64) -> Option<usize>
     requires { high ≤ length slots.now }
     ensures { Stops slots.now low high key result }
 {
-    for i in low..high {
-        if !passes(slots[i], key) {
-            return Some(i);
-        }
-    }
-    None
+    (low..high).find(|i| !passes(slots, *i, key))
 }
 
 /// The slot, of `n`, where the search for `key` starts.
@@ -68,22 +50,10 @@ pub(crate) fn home(key: u64, n: usize) -> usize
     (mixed * n as u64 >> 32) as usize
 }
 
-/// Whether a search for `key` goes on past `slot`.
-fn passes<V: Copy>(slot: Slot<V>, key: u64) -> bool
-    ensures { result ≡ goes_past slot key }
+/// Whether a search for `key` goes on past slot `i`.
+fn passes<V: Copy>(slots: &[Slot<V>], i: usize, key: u64) -> bool
+    requires { i < length slots.now }
+    ensures { result ≡ goes_past (slice_index_or slots.now i None) key }
 {
-    match slot {
-        Some((held, _)) => held != key,
-        None => false,
-    }
-}
-
-/// The value in `slot`.
-pub(crate) fn value_in<V: Copy>(slot: Slot<V>) -> Option<V>
-    ensures { result ≡ option_map (λ p. p.1) slot }
-{
-    match slot {
-        Some((_, value)) => Some(value),
-        None => None,
-    }
+    slots[i].is_some_and(|(held, _)| held != key)
 }

@@ -3,18 +3,18 @@
 #![tactic(auto)]
 
 ghost use Rattle.std.specs.Prelude.{◌≡◌, length};
-ghost use Rattle.loose.specs.Homes.{Tidy};
+ghost use Rattle.loose.specs.Homes.{Tidy, Found};
 ghost use Rattle.loose.specs.Rows.{held_by, fresh};
 ghost use Rattle.loose.specs.Slots.{gathered};
 ghost use Rattle.loose.specs.Gathers.{rising, fit, gathered_le};
 
-use crate::row::Row;
-use crate::scan::wipe;
+use crate::close::free;
+use crate::find::find;
+use crate::scan::{first_from, wipe};
 use store::{Absent, Holds, PutRefusal, Slot, Store};
 
 mod close;
 mod find;
-mod row;
 mod scan;
 
 /// A table that keeps its pairs in no order: each goes into a slot at or behind its key's home, so that few slots are looked at while there
@@ -22,69 +22,97 @@ mod scan;
 /// No contract speaks of the number of steps.
 #[derive(Drop)]
 pub struct Loose<'a, V> {
-    row: Row<'a, V>,
-    ghost tidy: { Tidy row.slots.now },
-    ghost counted: { row.len ≡ length (gathered row.slots.now) },
+    slots: &'a mut [Slot<V>],
+    // How many of them hold a pair: the memory is the buyer's, so no `Vec` can tell.
+    len: usize,
+    ghost tidy: { Tidy slots.now },
+    ghost counted: { len ≡ length (gathered slots.now) },
 }
 
 impl<'a, V: Copy> Loose<'a, V> {
     /// An empty table over `slots`, whatever they hold. It uses the first 65,536 of them, if there are more.
     pub fn over(slots: &'a mut [Slot<V>]) -> Loose<'a, V>
-        ensures { held_by result.row ≡ fresh (length slots.old) }
+        ensures { held_by result.slots.now ≡ fresh (length slots.old) }
     {
         let n = slots.len().min(65536);
         let part = &mut slots[..n];
         wipe(part);
         Loose {
-            row: Row {
-                slots: part,
-                len: 0,
-            },
+            slots: part,
+            len: 0,
         }
+    }
+
+    /// The slot of `key`, or else the free one where it would go, if there is one.
+    fn find(&self, key: u64) -> Result<usize, Option<usize>>
+        ensures { Found self.now.slots.now key result }
+    {
+        find(self.slots, key)
     }
 }
 
 impl<'a, V: Copy> Holds<V> for Loose<'a, V> {
-    ghost held = { λ s. held_by s.row };
+    ghost held = { λ s. held_by s.slots.now };
 
     ghost sound = { λ s. record {
-      rising = rising s.row.slots.now;
-      fit = fit s.row.slots.now s.tidy.1;
-      within = gathered_le s.row.slots.now;
+      rising = rising s.slots.now;
+      fit = fit s.slots.now s.tidy.1;
+      within = gathered_le s.slots.now;
       small = s.tidy.0;
     } };
 }
 
 impl<'a, V: Copy> Store<V> for Loose<'a, V> {
     fn count(&self) -> usize {
-        self.row.len
+        self.len
     }
 
     fn capacity(&self) -> usize {
-        self.row.slots.len()
+        self.slots.len()
     }
 
     fn get(&self, key: u64) -> Option<V> {
-        self.row.get(key)
+        let at = self.find(key).ok()?;
+        let (_, value) = self.slots[at]?;
+        Some(value)
     }
 
     fn first_from(&self, key: u64) -> Option<(u64, V)> {
-        self.row.first_from(key)
+        first_from(self.slots, key)
     }
 
     fn put(&mut self, key: u64, value: V) -> Result<(), PutRefusal> {
-        self.row.put(key, value)
+        // Each of a search's three ends has an answer of its own.
+        match self.find(key) {
+            Ok(_) => Err(PutRefusal::Present),
+            Err(None) => Err(PutRefusal::Full),
+            Err(Some(at)) => {
+                self.slots[at] = Some((key, value));
+                self.len += 1;
+                Ok(())
+            }
+        }
     }
 
     fn change(&mut self, key: u64, value: V) -> Result<(), Absent> {
-        self.row.change(key, value)
+        let Ok(at) = self.find(key) else {
+            return Err(Absent);
+        };
+        self.slots[at] = Some((key, value));
+        Ok(())
     }
 
     fn take_out(&mut self, key: u64) -> Result<(), Absent> {
-        self.row.take_out(key)
+        let Ok(at) = self.find(key) else {
+            return Err(Absent);
+        };
+        free(self.slots, at);
+        self.len -= 1;
+        Ok(())
     }
 
     fn clear(&mut self) {
-        self.row.clear();
+        wipe(self.slots);
+        self.len = 0;
     }
 }

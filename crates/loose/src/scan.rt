@@ -10,20 +10,17 @@ use store::Slot;
 pub(crate) fn wipe<V: Copy>(slots: &mut [Slot<V>])
     ensures { Blank slots.new }
 {
-    for i in 0..slots.len() {
-        slots[i] = None;
-    }
+    slots.fill(None);
 }
 
 /// The pair with the smallest key at or above `key`.
 pub(crate) fn first_from<V: Copy>(slots: &[Slot<V>], key: u64) -> Option<(u64, V)>
     ensures { result ≡ from (gathered slots.now) key }
 {
-    let mut best = None;
-    for i in (0..slots.len()).rev() {
-        best = nearer(best, slots[i], key);
-    }
-    best
+    slots
+        .iter()
+        .rev()
+        .fold(None, |best, slot| nearer(best, *slot, key))
 }
 
 /// The one of two slots that holds the smaller key at or above `key`, if either does.

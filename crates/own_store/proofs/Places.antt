@@ -1,36 +1,18 @@
 -- What stands at a key's place in a sorted list of pairs, and what a change there makes of the list.
-use Rattle.std.proofs.Common.{◌≡◌, ℕ, ◌<◌, ◌≤◌, Bool, true, cond, List, length, get_or, set, is_some, Some, None, Ok, Err, sym, ap, ◌∙◌, arith}
-use Rattle.std.proofs.lemmas.List.{get_or_default}
-use Rattle.std.proofs.lemmas.Bool.Decides.{nat_tests}
-use Rattle.std.specs.List.{insert, remove}
+use Rattle.std.proofs.Common.{◌≡◌, ℕ, ◌<◌, ◌≤◌, Bool, true, cond, List, length, get_or, set, is_some, Some, None, Option, MatchOption, Bor, Ok, Err, sym, ap, ◌∙◌, arith}
+use Rattle.std.specs.Option.{option_copied}
+use Rattle.std.specs.List.{insert, remove, HoldsAt}
 use Rattle.store.specs.Held.{at, from, write}
 use Rattle.ordered.specs.Slots.{rank, place}
-use Rattle.ordered.specs.Ranks.{rank_above, rank_below, at_index, at_missing, at_place, from_rank, from_ok, from_err, write_new, write_there, write_out}
+use Rattle.ordered.specs.Ranks.{at_index, at_place, from_rank, from_past, from_ok, from_err, write_new, write_there, write_out}
 use Rattle.own_store.specs.Pairs.{sorted}
 use Rattle.own_store.specs.PairsLemmas.{rising}
 
 module _ {V : Type 0} (ps : List (ℕ × V)) (up : sorted 0 ps ≡ true) (k i : ℕ) where
   -- What the pair x at place i tells of k.
   module _ (x : ℕ × V) (l : i < length ps) (e : x ≡ get_or ps i x) where
-    pub above : x.0 < k → i < rank ps k
-    above lt = rank_above 0 ps k i x (rising 0 ps up) l (rw (← e) lt)
-
-    pub not_above : k ≤ x.0 → rank ps k ≤ i
-    not_above le = rank_below ps k i x l (rw (← e) le)
-
     pub first_here : i ≡ rank ps k → Some x ≡ from ps k
     first_here r = ap Some (e ∙ ap (λ j. get_or ps j x) r) ∙ sym (from_rank ps k x (omega arith))
-
-    pub found : i ≡ rank ps k → x.0 ≡ k → Ok i ≡ place ps k
-    found r is = let a = at_index 0 ps k i x (rising 0 ps up) l (rw (← e) is) in grind (arith, nat_tests)
-
-    pub missing_here : i ≡ rank ps k → (x.0 ≡ k → ⊥) → Err i ≡ place ps k
-    missing_here r other =
-        let a = at_missing 0 ps k (rising 0 ps up) (λ d h is. other (ap (λ p. p.0) (e ∙ get_or_default ps i x d l ∙ ap (λ j. get_or ps j d) r) ∙ is)) in
-        grind (arith, nat_tests)
-
-  pub missing_past : length ps ≤ i → i ≡ rank ps k → Err i ≡ place ps k
-  missing_past l r = let a = at_missing 0 ps k (rising 0 ps up) (λ d h is. omega arith) in grind (arith, nat_tests)
 
   -- What k's place gives.
 
@@ -53,3 +35,9 @@ module _ {V : Type 0} (ps : List (ℕ × V)) (up : sorted 0 ps ≡ true) (k i : 
 
   pub out_there : (qs : List (ℕ × V)) → Ok i ≡ place ps k → qs ≡ remove ps i → qs ≡ write ps k None
   out_there qs o e = let t = there o in e ∙ sym (write_out 0 ps k i (rising 0 ps up) t.1 t.2)
+
+  -- what a look at k's place finds
+  pub first_at : i ≡ rank ps k → (r : Option (Bor (ℕ × V))) (w : Option (ℕ × V)) → w ≡ option_copied r →
+      MatchOption r (length ps ≤ i) (λ x. (i < length ps) × HoldsAt (λ y. x.now ≡ y) ps i) → w ≡ from ps k
+  first_at r None w e past = e ∙ sym (from_past ps k (omega arith))
+  first_at r (Some x) w e here = e ∙ first_here x.now here.0 (here.1 x.now) r

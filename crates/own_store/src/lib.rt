@@ -4,7 +4,7 @@
 
 ghost use Rattle.std.specs.Prelude.{◌≡◌, ◌<◌, ◌≤◌, true, IfOk, vec_len, vec_capacity, MatchResult};
 ghost use Rattle.ordered.specs.Rows.{fresh};
-ghost use Rattle.ordered.specs.Slots.{rank, place};
+ghost use Rattle.ordered.specs.Slots.{place};
 ghost use Rattle.own_store.specs.Pairs.{sorted, held_as};
 ghost use Rattle.std.proofs.Common.{arith};
 ghost use Rattle.own_store.specs.PairsLemmas.{rising, fit};
@@ -16,6 +16,7 @@ use store::{Absent, Holds, PutRefusal, Store};
 #[derive(Drop)]
 pub struct OwnStore<V> {
     pairs: Vec<(u64, V)>,
+    // Fixed at its making; the `Vec` may have memory for more.
     places: usize,
     // Keys rise and have 64 bits. There is memory for every place.
     ghost rises: { sorted 0 pairs.items ≡ true },
@@ -32,36 +33,12 @@ impl<V: Copy> OwnStore<V> {
         Ok(OwnStore { pairs, places })
     }
 
-    /// How many keys are below `key`, by halves.
-    fn rank(&self, key: u64) -> usize
-        ensures value { result ≡ rank self.now.pairs.items key }
-        ensures within { result ≤ vec_len self.now.pairs }
-    {
-        let mut low = 0;
-        let mut high = self.pairs.len();
-        while low < high {
-            let mid = low + (high - low) / 2;
-            let (held, _) = self.pairs[mid];
-            if held < key {
-                low = mid + 1;
-            } else {
-                high = mid;
-            }
-        }
-        low
-    }
-
     /// The place of `key`, or else that where it would go.
     fn find(&self, key: u64) -> Result<usize, usize>
         ensures value { result ≡ place self.now.pairs.items key }
         ensures within { MatchResult result (λ at. at < vec_len self.now.pairs) (λ at. at ≤ vec_len self.now.pairs) }
     {
-        let at = self.rank(key);
-        if at == self.pairs.len() {
-            return Err(at);
-        }
-        let (held, _) = self.pairs[at];
-        if held == key { Ok(at) } else { Err(at) }
+        self.pairs.binary_search_by_key(&key, |&(held, _)| held)
     }
 }
 
@@ -87,53 +64,37 @@ impl<V: Copy> Store<V> for OwnStore<V> {
     }
 
     fn get(&self, key: u64) -> Option<V> {
-        match self.find(key) {
-            Ok(at) => Some(self.pairs[at].1),
-            Err(_) => None,
-        }
+        let at = self.find(key).ok()?;
+        Some(self.pairs[at].1)
     }
 
     fn first_from(&self, key: u64) -> Option<(u64, V)> {
-        let at = self.rank(key);
-        if at < self.pairs.len() {
-            Some(self.pairs[at])
-        } else {
-            None
-        }
+        let (Ok(at) | Err(at)) = self.find(key);
+        self.pairs.get(at).copied()
     }
 
     fn put(&mut self, key: u64, value: V) -> Result<(), PutRefusal> {
-        match self.find(key) {
-            Ok(_) => Err(PutRefusal::Present),
-            Err(at) => {
-                if self.pairs.len() == self.places {
-                    return Err(PutRefusal::Full);
-                }
-                // Never refused, since the memory for it is there.
-                let _ = self.pairs.insert(at, (key, value));
-                Ok(())
-            }
+        let Err(at) = self.find(key) else {
+            return Err(PutRefusal::Present);
+        };
+        if self.pairs.len() == self.places {
+            return Err(PutRefusal::Full);
         }
+        // Never refused, since the memory for it is there.
+        let _ = self.pairs.insert(at, (key, value));
+        Ok(())
     }
 
     fn change(&mut self, key: u64, value: V) -> Result<(), Absent> {
-        match self.find(key) {
-            Ok(at) => {
-                self.pairs[at] = (key, value);
-                Ok(())
-            }
-            Err(_) => Err(Absent),
-        }
+        let at = self.find(key).map_err(|_| Absent)?;
+        self.pairs[at] = (key, value);
+        Ok(())
     }
 
     fn take_out(&mut self, key: u64) -> Result<(), Absent> {
-        match self.find(key) {
-            Ok(at) => {
-                self.pairs.remove(at);
-                Ok(())
-            }
-            Err(_) => Err(Absent),
-        }
+        let at = self.find(key).map_err(|_| Absent)?;
+        self.pairs.remove(at);
+        Ok(())
     }
 
     fn clear(&mut self) {

@@ -1,3 +1,4 @@
 pub mod Maps
 pub mod Scan
 pub mod Writes
+pub mod Walks

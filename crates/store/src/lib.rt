@@ -5,15 +5,19 @@
 ghost use Rattle.std.specs.Prelude.{◌≡◌, length};
 ghost use Rattle.store.specs.Held.{Held, Sound, find, from, has, puts, put, changes, change, take_out, emptied};
 
+pub use crate::iter::{PairIter, pairs};
+
+mod iter;
+
 /// Why a pair was not put in.
-#[derive(Clone, Copy)]
+#[derive(Clone, Copy, PartialEq, Eq)]
 pub enum PutRefusal {
     Present,
     Full,
 }
 
 /// The key is not there.
-#[derive(Clone, Copy)]
+#[derive(Clone, Copy, PartialEq, Eq)]
 pub struct Absent;
 
 /// A place for one pair in memory that a buyer lends to a table.

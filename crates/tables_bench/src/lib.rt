@@ -9,6 +9,7 @@ use store::Store;
 /// The most places of a table.
 const MOST: usize = 65_536;
 
+// The parameters are those of the exported names.
 /// Fills a table with the first `load` keys; then, `rounds` times, looks up and changes the oldest key, takes it out and puts the next one
 /// in. Answers a sum of what was read, so that nothing is left out.
 fn exercise<S: Store<u64>>(table: &mut S, keys: &[u64], load: usize, rounds: usize) -> u64 {
@@ -16,25 +17,19 @@ fn exercise<S: Store<u64>>(table: &mut S, keys: &[u64], load: usize, rounds: usi
         let _ = table.put(*key, 1);
     }
     let mut sum = 0u64;
-    let mut oldest = 0;
-    let mut next = load;
-    for round in 0..rounds {
-        let old = keys.get(oldest).copied().unwrap_or(0);
-        let new = keys.get(next).copied().unwrap_or(0);
-        sum = sum.wrapping_add(table.get(old).unwrap_or(0));
-        let _ = table.change(old, round as u64);
-        let _ = table.take_out(old);
-        let _ = table.put(new, 1);
-        oldest = after(oldest, keys.len());
-        next = after(next, keys.len());
+    let ahead = keys[load.min(keys.len())..]
+        .iter()
+        .chain(keys.iter().cycle());
+    for ((round, old), new) in (0..rounds).zip(keys.iter().cycle()).zip(ahead) {
+        sum = sum.wrapping_add(table.get(*old).unwrap_or(0));
+        let _ = table.change(*old, round as u64);
+        let _ = table.take_out(*old);
+        let _ = table.put(*new, 1);
     }
     sum
 }
 
-/// The place after `i`, and from the last one the first.
-fn after(i: usize, len: usize) -> usize {
-    if i < len && i + 1 < len { i + 1 } else { 0 }
-}
+// Twins, since a function that C calls cannot be generic; what they share is `exercise`.
 
 /// The ordered table with so many places.
 #[unsafe(no_mangle)]

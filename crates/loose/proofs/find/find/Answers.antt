@@ -16,8 +16,8 @@ returns-else-is_some g c =
     let free = free_here ss c.in-Some.at c.index-slots-at.result at.0 c.index-slots-at.is c.if-is_some.ensures in
     (absent (length ss) ss c.args.key c.in-Some.at refl c.requires.2 at free, free, at)
 
-pub returns-in-None : goal.returns-in-None
-returns-in-None g c =
+pub returns-in_default : goal.returns-in_default
+returns-in_default g c =
     let ss = c.args.slots.now in
-    let all = all_held (length ss) ss c.args.key refl c.in-None.ensures in
+    let all = all_held (length ss) ss c.args.key refl c.in_default.ensures in
     (all.1, gathered_full ss c.requires.1 all.0)

@@ -7,7 +7,7 @@ use Rattle.ordered.proofs.OrderedStore.count.Goals as goal
 pub returns : goal.returns
 returns g c =
     let table = c.args.self.now in
-    let n = length-take table.row.len table.row.slots.now in
-    let m = length_pairs 0 (front table.row) table.kept.1 in
+    let n = length-take table.len table.slots.now in
+    let m = length_pairs 0 (front table.slots.now table.len) table.kept.1 in
     let fits = table.kept.0 in
     omega arith

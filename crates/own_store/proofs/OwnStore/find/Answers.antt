@@ -1,21 +1,13 @@
-use Rattle.std.proofs.Common.{arith}
-use Rattle.own_store.proofs.Places.{found, missing_here, missing_past}
+use Rattle.std.proofs.Common.{rules}
+use Rattle.std.proofs.lemmas.List.Sorted.{answers_always}
+use Rattle.ordered.proofs.Found.{found_by_key}
+use Rattle.own_store.specs.PairsLemmas.{rising}
 use Rattle.own_store.proofs.OwnStore.find.Goals as goal
 
-pub returns-then-at-len : goal.returns-then-at-len
-returns-then-at-len g c = let s = c.args.self.now in record {
-  value = missing_past s.pairs.items s.rises c.args.key _ (omega arith) c.rank-at.ensures.value;
-  within = omega arith;
-}
-
-pub returns-then-held-key : goal.returns-then-held-key
-returns-then-held-key g c = let s = c.args.self.now in record {
-  value = found s.pairs.items s.rises c.args.key _ c.index.result.now (omega arith) c.index.ensures c.rank-at.ensures.value c.if-held-key.true;
-  within = omega arith;
-}
-
-pub returns-else-held-key : goal.returns-else-held-key
-returns-else-held-key g c = let s = c.args.self.now in record {
-  value = missing_here s.pairs.items s.rises c.args.key _ c.index.result.now (omega arith) c.index.ensures c.rank-at.ensures.value c.if-held-key.false;
-  within = omega arith;
-}
+-- the closure gives a pair's key, and the slice is the store's pairs
+pub returns-clause-value : goal.returns-clause-value
+returns-clause-value g c =
+    let s = c.args.self.now in
+    let facts = c.binary_search_by_key.ensures in
+    let by_key = facts.position (λ pair. pair.0) (answers_always _ _ _ (λ f a r h called. search rules)) in
+    rw (← c.deref.ensures.value) (found_by_key c.deref.result.now (rw c.deref.ensures.value (rising 0 s.pairs.items s.rises)) c.args.key c.binary_search_by_key.result facts.bound by_key)

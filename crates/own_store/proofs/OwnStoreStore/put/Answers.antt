@@ -24,9 +24,9 @@ invariant_of-self g c =
       fits = (omega arith, omega arith, omega arith);
     }
 
-pub returns-else-len-self : goal.returns-else-len-self
-returns-else-len-self g c =
+pub returns : goal.returns
+returns g c =
     let s = c.args.self.now in
     let gone = from_err s.pairs.items c.args.key _ c.in-Err.ensures.value in
     let free = put_free (held_as s.pairs.items s.places) c.args.key c.args.value gone.1 (λ full. omega arith) in
-    record { answer = free.0; after = ap (λ ps. held_as ps s.places) (new g (goal.at.returns-else-len-self g c).After-insert) ∙ free.1 }
+    record { answer = free.0; after = ap (λ ps. held_as ps s.places) (new g (goal.at.returns g c).After-insert) ∙ free.1 }
