@@ -1,2 +1,3 @@
 pub mod Fault
 pub mod Index
+pub mod Messages

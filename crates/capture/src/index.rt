@@ -10,40 +10,30 @@ pub fn judge(bytes: &[u8]) -> Result<usize, CaptureFault>
     ensures verdict { result ≡ judged bytes.now }
     ensures laid { (n : ℕ) → result ≡ Ok n → Laid bytes.now n }
 {
-    if bytes.len() < 4 {
-        return Err(CaptureFault::Cut);
-    }
-    let count = read_four(bytes, 0);
+    let head = bytes.first_chunk().ok_or(CaptureFault::Cut)?;
+    let count = u32::from_be_bytes(*head) as usize;
     let mut end = 4 + 6 * count;
-    if bytes.len() < end {
-        return Err(CaptureFault::Cut);
-    }
-    for pair in 0..count {
-        let at = 4 + 6 * pair;
-        let start = read_four(bytes, at);
+    let index = bytes.get(4..end).ok_or(CaptureFault::Cut)?;
+    let (entries, _) = index.as_chunks();
+    for (pair, entry) in entries.iter().enumerate() {
+        let (start, stop) = span(entry);
         if start < end {
             return Err(CaptureFault::Overlaps(pair));
         }
-        end = start + read_two(bytes, at + 4);
-        if bytes.len() < end {
+        if bytes.len() < stop {
             return Err(CaptureFault::Overruns(pair));
         }
+        end = stop;
     }
     Ok(count)
 }
 
-/// The number in two bytes from `at` on, the most significant first.
-pub(crate) fn read_two(bytes: &[u8], at: usize) -> usize
-    requires { at + 2 ≤ length bytes.now }
-    ensures { result ≡ two bytes.now at }
+/// Where the message of an entry starts, and where it ends.
+pub(crate) fn span(entry: &[u8; 6]) -> (usize, usize)
+    ensures start { result.0 ≡ four entry.now 0 }
+    ensures end { result.1 ≡ four entry.now 0 + two entry.now 4 }
 {
-    256 * bytes[at] as usize + bytes[at + 1] as usize
-}
-
-/// The number in four bytes from `at` on, the most significant first.
-pub(crate) fn read_four(bytes: &[u8], at: usize) -> usize
-    requires { at + 4 ≤ length bytes.now }
-    ensures { result ≡ four bytes.now at }
-{
-    65536 * read_two(bytes, at) + read_two(bytes, at + 2)
+    let [a, b, c, d, high, low] = *entry;
+    let start = u32::from_be_bytes([a, b, c, d]) as usize;
+    (start, start + u16::from_be_bytes([high, low]) as usize)
 }

@@ -1,6 +1,7 @@
 -- Decimal digits that are written from the last one back.
-use Rattle.std.proofs.Common.{◌≡◌, ℕ, ◌+◌, ◌-◌, ◌/◌, ◌%◌, ◌^◌, ◌<◌, ◌≤◌, List, ◌∷◌, ◌++◌, length, drop, set, decimal, sym, refl, ap, ◌∙◌, ⊎_elim, append_assoc, arith}
-use Rattle.std.proofs.lemmas.Fmt.{decimal_digit, decimal_step, decimal_nonempty}
+use Rattle.std.proofs.Common.{◌≡◌, ℕ, zero, suc, ◌+◌, ◌-◌, ◌*◌, ◌/◌, ◌%◌, ◌^◌, ◌<◌, ◌≤◌, max, List, ◌∷◌, ◌++◌, length, drop, set, decimal, sym, refl, ap, ◌∙◌, ⊎_elim, add-one, append_assoc, arith}
+use Rattle.std.proofs.Math.Nat.{pow-suc}
+use Rattle.std.proofs.lemmas.Fmt.{decimal_digit, decimal_step, decimal_nonempty, length-decimal-le}
 use Rattle.std.proofs.lemmas.List.{drop-set, length_push}
 use Rattle.std.proofs.lemmas.Bool.{cases_lt}
 
@@ -9,6 +10,30 @@ length-decimal_step n h f = ap length (decimal_step n h f) ∙ length_push (deci
 
 pub length-decimal_digit : (n : ℕ) → n < 10 → length (decimal n) ≡ 1
 length-decimal_digit n h = ap length (decimal_digit n h)
+
+-- by the largest power of ten that is no more than the number, or than one
+some : (k : ℕ) → 0 < 10 ^ k
+some zero = omega arith
+some (suc k) = let p = pow-suc 10 k in omega (arith, some k)
+
+long : (k n : ℕ) → n < 2 ^ 64 → 10 ^ k ≤ n → k < length (decimal n)
+long zero n fits h = decimal_nonempty n fits
+long (suc k) n fits h =
+    let p = pow-suc 10 k in
+    let s = some k in
+    omega (arith, long k (n / 10) (omega arith) (omega arith), length-decimal_step n (omega arith) fits)
+
+least : (k n m : ℕ) → n < 2 ^ 64 → m ≡ max n 1 → 10 ^ k ≤ m → k < length (decimal n)
+least zero n m fits e low = decimal_nonempty n fits
+least (suc k) n m fits e low =
+    let p = pow-suc 10 k in
+    let s = some k in
+    long (suc k) n fits (omega arith)
+
+pub digits : (k n m : ℕ) → n < 2 ^ 64 → m ≡ max n 1 → 10 ^ k ≤ m → m < 10 * 10 ^ k → k + 1 ≡ length (decimal n)
+digits k n m fits e low high =
+    let p : 10 ^ (k + 1) ≡ 10 ^ k * 10 = rw add-one (pow-suc 10 k) in
+    omega (arith, least k n m fits e low, length-decimal-le (k + 1) n (omega arith) (omega arith) fits)
 
 -- the digits of n stand in `to` from i on, and those of `rest` belong before them
 abbrev pub Left : ℕ → ℕ → List ℕ → ℕ → Type 0

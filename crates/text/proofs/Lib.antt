@@ -1,3 +1,4 @@
 mod Digits
+mod PieceByPiece
 pub mod Writes
 pub mod Lines

@@ -1,11 +1,7 @@
 -- One text written after another.
-use Rattle.std.proofs.Common.{◌≡◌, ℕ, ◌+◌, ◌≤◌, List, [], ◌++◌, length, take, drop, decimal, sym, ap, ◌∙◌, append_assoc, arith, length-append, length-take}
+use Rattle.std.proofs.Common.{◌≡◌, ℕ, ◌+◌, ◌≤◌, List, [], ◌++◌, length, take, drop, sym, ap, ◌∙◌, append_assoc, arith, length-append, length-take}
 use Rattle.std.proofs.lemmas.List.{take_at, drop_at, drop-drop, take-append-drop}
 use Rattle.text.specs.Placed.{written}
-use Rattle.text.specs.FaultLine.{fault_line}
-
-pub length-fault_line : (number place pair : ℕ) → length (fault_line number place pair) ≡ 20 + length (decimal number) + length (decimal place) + length (decimal pair)
-length-fault_line number place pair = simp length-append (omega arith)
 
 -- the front of the buffer and the text make up the front for the next text
 module _ (buf text next : List ℕ) (at : ℕ) (room : at + length text + length next ≤ length buf) where

@@ -1,3 +1,4 @@
 pub mod Placed
+pub mod Pieces
 pub mod FaultLine
 pub mod Line

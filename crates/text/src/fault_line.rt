@@ -2,32 +2,48 @@
 
 ghost use Rattle.std.specs.Prelude.{◌≡◌, ◌+◌, ◌≤◌, length, decimal};
 ghost use Rattle.text.specs.FaultLine.{fault_line};
+ghost use Rattle.text.specs.Pieces.{pieces_text};
 ghost use Rattle.text.specs.Placed.{Placed};
 
 use crate::TooShort;
-use crate::number::{number_at, text_at, width};
+use crate::pieces::{Piece, number, pieces_width, put_pieces};
 
-/// Writes "fault N place P pair K" and the end of the line to the front, and answers how many bytes.
-pub fn put_fault_line(buf: &mut [u8], number: u8, place: u64, pair: u64) -> Result<usize, TooShort>
-    ensures { Placed buf.old 0 (fault_line number place pair) buf.new result }
-{
-    if buf.len() < fault_line_width(number, place, pair) {
-        return Err(TooShort);
-    }
-    let number = number as u64;
-    let at = text_at(buf, 0, b"fault ");
-    let at = number_at(buf, at, number);
-    let at = text_at(buf, at, b" place ");
-    let at = number_at(buf, at, place);
-    let at = text_at(buf, at, b" pair ");
-    let at = number_at(buf, at, pair);
-    Ok(text_at(buf, at, b"\n"))
+/// What the line tells: the fault's number, and its place and pair in the capture. A line is for a buyer to read, so no enum stands here.
+#[derive(Clone, Copy, PartialEq, Eq)]
+pub struct FaultLine {
+    pub number: u8,
+    pub place: u64,
+    pub pair: u64,
 }
 
-/// How many bytes that line takes.
-pub fn fault_line_width(number: u8, place: u64, pair: u64) -> usize
-    ensures value { result ≡ length (fault_line number place pair) }
-    ensures sum { result ≡ 20 + length (decimal number) + length (decimal place) + length (decimal pair) }
-{
-    20 + width(number as u64) + width(place) + width(pair)
+impl FaultLine {
+    /// How many bytes the line takes.
+    pub fn width(&self) -> usize
+        ensures value { result ≡ length (fault_line self.now.number self.now.place self.now.pair) }
+        ensures sum { result ≡ 20 + length (decimal self.now.number) + length (decimal self.now.place) + length (decimal self.now.pair) }
+    {
+        pieces_width(&self.pieces())
+    }
+
+    /// Writes "fault N place P pair K" and the end of the line to the front, and answers how many bytes.
+    pub fn put(&self, buf: &mut [u8]) -> Result<usize, TooShort>
+        ensures { Placed buf.old 0 (fault_line self.now.number self.now.place self.now.pair) buf.new result }
+    {
+        put_pieces(buf, 0, &self.pieces())
+    }
+
+    fn pieces(&self) -> [Piece<'static>; 7]
+        ensures text { pieces_text result ≡ fault_line self.now.number self.now.place self.now.pair }
+        ensures bound { length (fault_line self.now.number self.now.place self.now.pair) ≤ 20 + 60 }
+    {
+        [
+            Piece::Text(b"fault "),
+            number(self.number as u64),
+            Piece::Text(b" place "),
+            number(self.place),
+            Piece::Text(b" pair "),
+            number(self.pair),
+            Piece::Text(b"\n"),
+        ]
+    }
 }

@@ -5,6 +5,7 @@
 pub mod fault_line;
 pub mod line;
 pub mod number;
+pub mod pieces;
 
 /// The buffer ends before the text would; it is as it was.
 #[derive(Clone, Copy, PartialEq, Eq)]

@@ -1,11 +1,12 @@
 //! A stock's line of the report.
 
-ghost use Rattle.std.specs.Prelude.{◌≡◌, ◌+◌, ◌≤◌, length, take};
+ghost use Rattle.std.specs.Prelude.{◌≡◌, ◌+◌, ◌≤◌, ◌==◌, length, position, take};
 ghost use Rattle.text.specs.Line.{line as line_text, size, unfilled};
-ghost use Rattle.text.specs.Placed.{Placed, written};
+ghost use Rattle.text.specs.Pieces.{pieces_text};
+ghost use Rattle.text.specs.Placed.{Placed};
 
 use crate::TooShort;
-use crate::number::{number_at, text_at, width};
+use crate::pieces::{Piece, number, pieces_width, put_pieces};
 
 /// What the report tells of one stock.
 #[derive(Clone, Copy)]
@@ -23,39 +24,31 @@ impl Line {
         ensures sum { result ≡ size self.now }
         ensures bound { result ≤ 4 + 60 + length self.now.symbol }
     {
-        4 + width(self.locate)
-            + symbol_len(&self.symbol)
-            + width(self.open_shares)
-            + width(self.live_volume)
+        pieces_width(&self.pieces())
     }
 
     /// Writes the line from `at` on, and answers where it ends.
     pub fn put(&self, buf: &mut [u8], at: usize) -> Result<usize, TooShort>
         ensures { Placed buf.old at (line_text self.now) buf.new result }
     {
-        let needed = self.width();
-        if buf.len() < needed || buf.len() - needed < at {
-            return Err(TooShort);
-        }
-        Ok(line_at(buf, at, *self))
+        put_pieces(buf, at, &self.pieces())
     }
-}
 
-/// Writes a line for which there is room, and answers where it ends.
-fn line_at(buf: &mut [u8], at: usize, line: Line) -> usize
-    requires { at + size line ≤ length buf.old }
-    ensures end { result ≡ at + length (line_text line) }
-    ensures after { buf.new ≡ written buf.old at (line_text line) }
-{
-    let symbol = &line.symbol[0..symbol_len(&line.symbol)];
-    let at = number_at(buf, at, line.locate);
-    let at = text_at(buf, at, b" ");
-    let at = text_at(buf, at, symbol);
-    let at = text_at(buf, at, b" ");
-    let at = number_at(buf, at, line.open_shares);
-    let at = text_at(buf, at, b" ");
-    let at = number_at(buf, at, line.live_volume);
-    text_at(buf, at, b"\n")
+    fn pieces(&self) -> [Piece<'_>; 8]
+        ensures text { pieces_text result ≡ line_text self.now }
+        ensures bound { length (line_text self.now) ≤ 4 + 60 + length self.now.symbol }
+    {
+        [
+            number(self.locate),
+            Piece::Text(b" "),
+            Piece::Text(&self.symbol[..symbol_len(&self.symbol)]),
+            Piece::Text(b" "),
+            number(self.open_shares),
+            Piece::Text(b" "),
+            number(self.live_volume),
+            Piece::Text(b"\n"),
+        ]
+    }
 }
 
 /// How many bytes of a symbol stand before its filling.
@@ -64,10 +57,11 @@ pub fn symbol_len(symbol: &[u8]) -> usize
     ensures front { take result symbol.now ≡ unfilled symbol.now }
     ensures bound { result ≤ length symbol.now }
 {
-    for (i, b) in symbol.iter().enumerate() {
-        if *b == b' ' {
-            return i;
-        }
-    }
-    symbol.len()
+    first_space(symbol).unwrap_or(symbol.len())
+}
+
+fn first_space(symbol: &[u8]) -> Option<usize>
+    ensures { result ≡ position (λ b. b == 32) symbol.now }
+{
+    symbol.iter().position(|b| *b == b' ')
 }
