@@ -1,5 +1,7 @@
 //! The letters that fields may hold, as plain numbers.
 
+// A rule of the project: each is a small function that matches a letter and answers with a plain number, so none of them is an enum.
+
 #![tactic(auto)]
 
 ghost use Rattle.std.specs.Prelude.{◌≡◌};

@@ -1,4 +1,3 @@
-pub mod Answering
 pub mod Parts
 pub mod Numbers
 pub mod Digits

@@ -1,15 +1,15 @@
 -- A message's values, from its head and its rest.
 use Rattle.std.proofs.Common.{◌≡◌, ℕ, ◌+◌, ◌*◌, ◌≤◌, List, [], ◌∷◌, length, get_or, drop, refl, ap, ◌∙◌, arith}
 use Rattle.std.specs.Int.Digits.{number_from_digits}
-use Rattle.decode.specs.declared.kind.Kind.{Kind}
-use Rattle.decode.specs.declared.kind.Kind.TheVariants as kind
+use Rattle.wire.specs.declared.kind.Kind.{Kind}
+use Rattle.wire.specs.declared.kind.Kind.TheVariants as kind
 use Rattle.wire.specs.declared.message.Head.{Head}
 use Rattle.wire.specs.Table.{Row, Value, figure, every_field}
 use Rattle.wire.specs.Told.{with_head}
 use Rattle.decode.specs.Decoding.{values}
 use Rattle.decode.proofs.Numbers.{pulls}
 use Rattle.decode.specs.Rest.{rest_values}
-use Rattle.decode.specs.Kinds.{row_of}
+use Rattle.wire.specs.Kinds.{row_of}
 
 split : (k : Kind) (x0 x1 x2 x3 x4 x5 x6 x7 x8 x9 x10 : ℕ) (rest : List ℕ) →
     values (x0 ∷ x1 ∷ x2 ∷ x3 ∷ x4 ∷ x5 ∷ x6 ∷ x7 ∷ x8 ∷ x9 ∷ x10 ∷ rest) (every_field (row_of k)) ≡

@@ -1,5 +1,5 @@
 -- What bytes of a feed are decoded to: a row and the values of its fields, or why they are refused.
-use Rattle.std.specs.Prelude.{ℕ, ◌<◌, min, cond, ◌&&◌, List, [], ◌∷◌, map, length, take, drop, Some, None, Ok, Err, Option, Result, ◌==◌, slice_index}
+use Rattle.std.specs.Prelude.{ℕ, ◌<◌, min, cond, List, [], ◌∷◌, map, length, take, drop, Some, None, Ok, Err, Option, Result, ◌==◌, slice_index}
 use Rattle.std.specs.Int.Digits.{number_from_digits}
 use Rattle.wire.specs.declared.fault.BytesFault.TheVariants.{Empty, NotInFeed, WrongLength}
 use Rattle.wire.specs.declared.fault.FieldsFault.{FieldsFault}
@@ -8,6 +8,7 @@ use Rattle.wire.specs.declared.fault.WireFault.TheVariants.{Bytes, Fields}
 use Rattle.wire.specs.declared.message.Feed.{Feed}
 use Rattle.wire.specs.declared.message.Message.{Message}
 use Rattle.wire.specs.Table.{Row, Field, num, symbol, Value, figure, text, table, every_field}
+pub use Rattle.wire.specs.Table.{find}
 use Rattle.wire.specs.Judging.{row_judged}
 use Rattle.wire.specs.Told.{told}
 
@@ -27,11 +28,6 @@ value bs (symbol at) = text at (part at 8 bs)
 -- What each of these fields of a message holds.
 abbrev pub values : List ℕ → List Field → List Value
 values bs fs = map (value bs) fs
-
--- The first row with this letter in this feed.
-abbrev pub find : List Row → Feed → ℕ → Option Row
-find [] f k = None
-find (r ∷ rs) f k = cond (k == r.letter && r.on f) (Some r) (find rs f k)
 
 -- A message whose fields were judged: it, or the refusal.
 abbrev pub if_passed : Result (Unit {0}) FieldsFault → Row × List Value → Result (Row × List Value) WireFault

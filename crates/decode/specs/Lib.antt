@@ -1,3 +1,2 @@
 pub mod Decoding
-pub mod Kinds
 pub mod Rest

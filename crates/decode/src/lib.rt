@@ -4,18 +4,17 @@
 
 ghost use Rattle.std.specs.Prelude.{◌≡◌, ◌+◌, ◌<◌, ◌≤◌, length, IfOk, Ok};
 ghost use Rattle.wire.specs.Judging.{row_judged};
+ghost use Rattle.wire.specs.Kinds.{row_of};
 ghost use Rattle.wire.specs.Layout.{bytes_of};
 ghost use Rattle.wire.specs.Table.{every_field};
 ghost use Rattle.wire.specs.Told.{with_head, told};
-ghost use Rattle.decode.specs.Decoding.{values, decoding, told_in, ByteString};
-ghost use Rattle.decode.specs.Kinds.{row_of};
+ghost use Rattle.decode.specs.Decoding.{values, decoding, told_in};
 ghost use Rattle.decode.specs.Rest.{rest_values};
 
-use crate::kind::{Kind, kind_of};
 use wire::fault::{BytesFault, WireFault};
+use wire::kind::Kind;
 use wire::message::{Feed, Head, Message};
 
-mod kind;
 mod reading;
 
 // A message of this kind, from its head and the bytes after it.
@@ -42,30 +41,17 @@ fn read(kind: Kind, head: Head, rest: &[u8]) -> Message<'_>
 }
 
 // Takes a message apart: its letter, two bytes of locate, eight of time stamp, and the rest.
+// A rule of the project: by a slice pattern.
 fn take_apart(kind: Kind, bytes: &[u8]) -> Message<'_>
     requires { (length bytes.now ≡ (row_of kind).size) × (11 ≤ length bytes.now) }
     ensures { told result ≡ (row_of kind, values bytes.now (every_field (row_of kind))) }
 {
     let [_, l0, l1, t0, t1, t2, t3, t4, t5, t6, t7, rest @ ..] = bytes else {
-        unreachable()
+        unreachable!()
     };
     let locate = u16::from_be_bytes([*l0, *l1]);
     let stamp = u64::from_be_bytes([*t0, *t1, *t2, *t3, *t4, *t5, *t6, *t7]);
     read(kind, Head { locate, stamp }, rest)
-}
-
-// A byte is below 256.
-fn is_byte(b: u8)
-    ensures { b < 256 }
-{}
-
-// Each element of a byte slice is a byte: a fact for the proof, nothing is left of it in the compiled code.
-fn are_bytes(bytes: &[u8])
-    ensures { ByteString bytes.now }
-{
-    for b in bytes {
-        is_byte(*b);
-    }
 }
 
 /// The message that bytes of a feed hold, or the first question that they do not pass.
@@ -75,17 +61,12 @@ pub fn decode(feed: Feed, bytes: &[u8]) -> Result<Message<'_>, WireFault>
     ensures passed { IfOk result (λ m. row_judged (told m).0 (told m).1 ≡ Ok tt) }
     ensures back { IfOk result (λ m. bytes_of (told m) ≡ bytes.now) }
 {
-    let [letter, ..] = bytes else {
-        return Err(WireFault::Bytes(BytesFault::Empty));
-    };
-    let Some(kind) = kind_of(feed, *letter as char) else {
-        return Err(WireFault::Bytes(BytesFault::NotInFeed));
-    };
+    let letter = bytes.first().ok_or(BytesFault::Empty)?;
+    let kind = Kind::named(feed, *letter as char).ok_or(BytesFault::NotInFeed)?;
     if bytes.len() != kind.size() {
-        return Err(WireFault::Bytes(BytesFault::WrongLength(bytes.len().min(kind.size()))));
+        return Err(BytesFault::WrongLength(bytes.len().min(kind.size())).into());
     }
     let message = take_apart(kind, bytes);
     message.judge()?;
-    are_bytes(bytes);
     Ok(message)
 }

@@ -1,48 +1,25 @@
 //! The values of a message, taken from the bytes after its head: what stands at offset 11 of the message is at 0 here.
 
 ghost use Rattle.std.specs.Prelude.{◌≡◌, ◌+◌, ◌^◌, ◌<◌, ◌≤◌, length};
-ghost use Rattle.std.specs.Int.Digits.{number_from_digits};
 ghost use Rattle.wire.specs.Table.{text, row_S, row_R, row_H, row_Y, row_A, row_E, row_X, row_D, row_U, row_C, row_B, row_Q, row_T};
 ghost use Rattle.wire.specs.Told.{with_head, of_symbol, of_event, of_directory, of_trading_action, of_restriction, of_add, of_execute, of_cancel, of_delete, of_replace, of_correct, of_break, of_quote, of_sale};
 ghost use Rattle.decode.specs.Decoding.{part};
 ghost use Rattle.decode.specs.Rest.{rest_values};
+
+// A function for each type that is built: two of one shape differ in the type and in each field's name, so one for both would be no plainer.
+// Head and rest come to each: a struct of the two would be taken apart again in each.
 
 use wire::message::{
     Add, Break, Cancel, Correct, Delete, Directory, Event, Execute, Head, Quote, Replace,
     Restriction, Sale, Symbol, TradingAction,
 };
 
-// Eight bytes from an offset, the most significant first.
-fn long(rest: &[u8], at: usize) -> u64
-    requires { at + 8 ≤ length rest.now }
-    ensures { result ≡ number_from_digits 256 (part at 8 rest.now) }
+// So many bytes from an offset on.
+fn part<const N: usize>(rest: &[u8], at: usize) -> [u8; N]
+    requires { at + N ≤ length rest.now }
+    ensures { result ≡ part at N rest.now }
 {
-    u64::from_be_bytes([
-        rest[at],
-        rest[at + 1],
-        rest[at + 2],
-        rest[at + 3],
-        rest[at + 4],
-        rest[at + 5],
-        rest[at + 6],
-        rest[at + 7],
-    ])
-}
-
-// Four bytes likewise.
-fn quad(rest: &[u8], at: usize) -> u32
-    requires { at + 4 ≤ length rest.now }
-    ensures { result ≡ number_from_digits 256 (part at 4 rest.now) }
-{
-    u32::from_be_bytes([rest[at], rest[at + 1], rest[at + 2], rest[at + 3]])
-}
-
-// One byte, as a letter.
-fn code(rest: &[u8], at: usize) -> char
-    requires { at < length rest.now }
-    ensures { result ≡ number_from_digits 256 (part at 1 rest.now) }
-{
-    rest[at] as char
+    rest[at..at + N].try_into().unwrap()
 }
 
 // A borrowed part of the message, with its offset in the whole.
@@ -62,7 +39,7 @@ pub(crate) fn event(head: Head, rest: &[u8]) -> Event
 {
     Event {
         head,
-        event: code(rest, 0),
+        event: rest[0] as char,
     }
 }
 
@@ -73,9 +50,9 @@ pub(crate) fn directory(head: Head, rest: &[u8]) -> Directory<'_>
     Directory {
         head,
         stock: stock(rest, 0),
-        category: code(rest, 8),
-        lot: quad(rest, 9),
-        authenticity: code(rest, 13),
+        category: rest[8] as char,
+        lot: u32::from_be_bytes(part(rest, 9)),
+        authenticity: rest[13] as char,
     }
 }
 
@@ -86,7 +63,7 @@ pub(crate) fn trading_action(head: Head, rest: &[u8]) -> TradingAction<'_>
     TradingAction {
         head,
         stock: stock(rest, 0),
-        state: code(rest, 8),
+        state: rest[8] as char,
     }
 }
 
@@ -97,7 +74,7 @@ pub(crate) fn restriction(head: Head, rest: &[u8]) -> Restriction<'_>
     Restriction {
         head,
         stock: stock(rest, 0),
-        restriction: code(rest, 8),
+        restriction: rest[8] as char,
     }
 }
 
@@ -107,11 +84,11 @@ pub(crate) fn add(head: Head, rest: &[u8]) -> Add<'_>
 {
     Add {
         head,
-        reference: long(rest, 0),
-        side: code(rest, 8),
-        shares: quad(rest, 9),
+        reference: u64::from_be_bytes(part(rest, 0)),
+        side: rest[8] as char,
+        shares: u32::from_be_bytes(part(rest, 9)),
         stock: stock(rest, 13),
-        price: long(rest, 21),
+        price: u64::from_be_bytes(part(rest, 21)),
     }
 }
 
@@ -121,9 +98,9 @@ pub(crate) fn execute(head: Head, rest: &[u8]) -> Execute
 {
     Execute {
         head,
-        reference: long(rest, 0),
-        shares: quad(rest, 8),
-        match_number: long(rest, 12),
+        reference: u64::from_be_bytes(part(rest, 0)),
+        shares: u32::from_be_bytes(part(rest, 8)),
+        match_number: u64::from_be_bytes(part(rest, 12)),
     }
 }
 
@@ -133,8 +110,8 @@ pub(crate) fn cancel(head: Head, rest: &[u8]) -> Cancel
 {
     Cancel {
         head,
-        reference: long(rest, 0),
-        shares: quad(rest, 8),
+        reference: u64::from_be_bytes(part(rest, 0)),
+        shares: u32::from_be_bytes(part(rest, 8)),
     }
 }
 
@@ -144,7 +121,7 @@ pub(crate) fn delete(head: Head, rest: &[u8]) -> Delete
 {
     Delete {
         head,
-        reference: long(rest, 0),
+        reference: u64::from_be_bytes(part(rest, 0)),
     }
 }
 
@@ -154,10 +131,10 @@ pub(crate) fn replace(head: Head, rest: &[u8]) -> Replace
 {
     Replace {
         head,
-        original: long(rest, 0),
-        new_reference: long(rest, 8),
-        shares: quad(rest, 16),
-        price: long(rest, 20),
+        original: u64::from_be_bytes(part(rest, 0)),
+        new_reference: u64::from_be_bytes(part(rest, 8)),
+        shares: u32::from_be_bytes(part(rest, 16)),
+        price: u64::from_be_bytes(part(rest, 20)),
     }
 }
 
@@ -167,10 +144,10 @@ pub(crate) fn correct(head: Head, rest: &[u8]) -> Correct
 {
     Correct {
         head,
-        match_number: long(rest, 0),
-        new_match_number: long(rest, 8),
-        shares: quad(rest, 16),
-        price: long(rest, 20),
+        match_number: u64::from_be_bytes(part(rest, 0)),
+        new_match_number: u64::from_be_bytes(part(rest, 8)),
+        shares: u32::from_be_bytes(part(rest, 16)),
+        price: u64::from_be_bytes(part(rest, 20)),
     }
 }
 
@@ -180,7 +157,7 @@ pub(crate) fn broken(head: Head, rest: &[u8]) -> Break
 {
     Break {
         head,
-        match_number: long(rest, 0),
+        match_number: u64::from_be_bytes(part(rest, 0)),
     }
 }
 
@@ -191,10 +168,10 @@ pub(crate) fn quote(head: Head, rest: &[u8]) -> Quote<'_>
     Quote {
         head,
         stock: stock(rest, 0),
-        bid: long(rest, 8),
-        bid_size: quad(rest, 16),
-        offer: long(rest, 20),
-        offer_size: quad(rest, 28),
+        bid: u64::from_be_bytes(part(rest, 8)),
+        bid_size: u32::from_be_bytes(part(rest, 16)),
+        offer: u64::from_be_bytes(part(rest, 20)),
+        offer_size: u32::from_be_bytes(part(rest, 28)),
     }
 }
 
@@ -205,8 +182,8 @@ pub(crate) fn sale(head: Head, rest: &[u8]) -> Sale<'_>
     Sale {
         head,
         stock: stock(rest, 0),
-        match_number: long(rest, 8),
-        price: long(rest, 16),
-        size: quad(rest, 24),
+        match_number: u64::from_be_bytes(part(rest, 8)),
+        price: u64::from_be_bytes(part(rest, 16)),
+        size: u32::from_be_bytes(part(rest, 24)),
     }
 }

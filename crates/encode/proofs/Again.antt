@@ -1,5 +1,5 @@
 -- What is written decodes to the same fields.
-use Rattle.std.proofs.Common.{◌≡◌, ℕ, ◌+◌, true, cond, eqb, List, [], ◌∷◌, ◌++◌, length, take, drop, Some, None, Ok, Option, Result, sym, refl, ap, ◌∙◌, subst, append_assoc, arith, length-append}
+use Rattle.std.proofs.Common.{◌≡◌, ℕ, ◌+◌, ◌^◌, ◌<◌, true, cond, eqb, List, [], ◌∷◌, ◌++◌, length, take, drop, Some, None, Ok, Option, Result, sym, refl, ap, ◌∙◌, subst, append_assoc, arith, length-append}
 use Rattle.std.specs.Int.Digits.{number_from_digits}
 use Rattle.std.proofs.lemmas.List.{take_at, drop_at}
 use Rattle.std.proofs.lemmas.Bool.{eq-eqb, eqb-true}
@@ -11,7 +11,8 @@ use Rattle.wire.specs.declared.message.Message.TheVariants as message
 use Rattle.wire.specs.Judging.{judged, after, fields_judged, figure_at, limit_judged, row_judged}
 use Rattle.wire.specs.Layout.{digits, fields_bytes, bytes_of}
 use Rattle.wire.specs.Table.{Row, Field, num, symbol, Value, figure, text, every_field, table, depth, bbbo, last_sale, row_S, row_R, row_H, row_Y, row_A, row_E, row_X, row_D, row_U, row_C, row_B, row_Q, row_T, row_sale_X}
-use Rattle.wire.specs.Told.{told}
+use Rattle.wire.specs.declared.message.Head.{Head}
+use Rattle.wire.specs.Told.{told, head_of, with_head}
 use Rattle.decode.specs.Decoding.{part, values, find, by_row, checked, if_passed, decoding}
 use Rattle.decode.proofs.Digits.{length_digits, number_digits}
 use Rattle.decode.proofs.Whole.{gapless, in_table}
@@ -133,6 +134,42 @@ accepted : (r : Row) (bs : List ℕ) (vs : List Value) → length bs ≡ r.size 
 accepted r bs vs l v j =
     let good : checked r vs ≡ Ok (r, vs) = ap (λ (x : Result (Unit {0}) FieldsFault). if_passed x (r, vs)) j in
     rw (eq-eqb (length bs) r.size l) (subst (λ (u : List Value). checked r u ≡ Ok (r, vs)) (sym v) good)
+
+-- every message begins with its locate and time stamp
+module _ (m : Message) where
+  head_first : (told m).1 ≡ with_head (head_of m) (drop 2 (told m).1)
+  head_first = go m
+    where
+      go : (m : Message) → (told m).1 ≡ with_head (head_of m) (drop 2 (told m).1)
+      go (message.Event m) = refl
+      go (message.Directory m) = refl
+      go (message.TradingAction m) = refl
+      go (message.Restriction m) = refl
+      go (message.Add m) = refl
+      go (message.Execute m) = refl
+      go (message.Cancel m) = refl
+      go (message.Delete m) = refl
+      go (message.Replace m) = refl
+      go (message.Correct m) = refl
+      go (message.Break m) = refl
+      go (message.Quote m) = refl
+      go (message.Sale m) = refl
+      go (message.SaleCancel m) = refl
+
+  pub rest_narrow : AllNarrow (every_field (told m).0) (told m).1 → AllNarrow (told m).0.fields (drop 2 (told m).1)
+  rest_narrow n = (subst (λ (vs : List Value). AllNarrow (every_field (told m).0) vs) head_first n).1.1
+
+  pub all_widths : (h : Head) → h ≡ head_of m → (h.locate < 256 ^ 2) × (h.stamp < 256 ^ 8) →
+      Widths (told m).0.fields (drop 2 (told m).1) → Widths (every_field (told m).0) (told m).1
+  all_widths h e (l, s) w =
+      subst (λ (vs : List Value). Widths (every_field (told m).0) vs) (sym head_first) (rw (← e) l, (rw (← e) s, w))
+
+  pub placed_behind : (h : Head) (k : ℕ) (headed old : List ℕ) → h ≡ head_of m → k ≡ (told m).0.letter →
+      headed ≡ laid 3 (digits 8 h.stamp) (laid 1 (digits 2 h.locate) (laid 0 (k ∷ []) old)) →
+      placed (told m).0.fields (drop 2 (told m).1) headed ≡ placed (every_field (told m).0) (told m).1 (laid 0 ((told m).0.letter ∷ []) old)
+  placed_behind h k headed old e l p =
+      rw (p, e, l)
+      (ap (λ (vs : List Value). placed (every_field (told m).0) vs (laid 0 ((told m).0.letter ∷ []) old)) (sym head_first))
 
 module _ (f : Feed) (m : Message) (on : (told m).0.on f ≡ true) (passed : row_judged (told m).0 (told m).1 ≡ Ok tt)
     (widths : Widths (every_field (told m).0) (told m).1) (narrow : AllNarrow (every_field (told m).0) (told m).1) where

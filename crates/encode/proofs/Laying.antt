@@ -4,21 +4,17 @@ use borrow.Rule.Slice.PartMut.{put_mid}
 use Rattle.std.proofs.lemmas.List.{take_at, drop_at, drop-drop}
 use Rattle.std.proofs.lemmas.Bool.{eqb-true}
 use Rattle.wire.specs.Layout.{digits, fields_bytes}
-use Rattle.wire.specs.Table.{Row, Field, num, symbol, Value, figure, text}
+use Rattle.wire.specs.Table.{Field, num, symbol, Value, figure, text}
 use Rattle.decode.proofs.Back.{follows}
 use Rattle.decode.proofs.Digits.{length_digits}
 use Rattle.decode.proofs.Whole.{gapless}
-use Rattle.encode.specs.Laying.{laid, placed, AllNarrow, Put}
+use Rattle.encode.specs.Laying.{laid, placed, AllNarrow}
 use Rattle.encode.proofs.Shapes.{shaped, never}
 
 -- a part of the buffer that was copied over
 pub pasted : (at k : ℕ) (before ys bs : List ℕ) → k ≡ length bs → ys ≡ bs → put_mid at k before ys ≡ laid at bs before
 unfolding laid
 pasted at k before ys bs n e = rw (e, n, drop-drop (length bs) at before)
-
--- what is known of a message that is t
-pub put_as : {m t : Row × List Value} {old after : List ℕ} → m ≡ t → Put t old after → Put m old after
-put_as e w = rw e w
 
 -- one part behind those that are laid
 next : (at w : ℕ) (front bs old : List ℕ) → length front ≡ at → length bs ≡ w →

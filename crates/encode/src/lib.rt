@@ -2,82 +2,56 @@
 
 #![tactic(auto)]
 
-ghost use Rattle.std.specs.Prelude.{◌≡◌, ◌≤◌, length, take, IfOk, Ok};
+ghost use Rattle.std.specs.Prelude.{◌≡◌, ◌≤◌, length, drop, take, IfOk, Ok};
 ghost use Rattle.wire.specs.Table.{every_field};
 ghost use Rattle.wire.specs.Told.{told};
 ghost use Rattle.decode.specs.Decoding.{decoding};
-ghost use Rattle.encode.specs.Laying.{AllNarrow, Put};
+ghost use Rattle.encode.specs.Laying.{placed, AllNarrow, Put, Widths};
 ghost use Rattle.encode.specs.Writing.{writing, buffer as buffer_after, as_written};
 
+use crate::put::{put, put_head};
 use wire::fault::{BytesFault, WireFault};
 use wire::message::{Feed, Message};
 
 mod put;
 mod rows;
 
-// Question 2: is the message's row in the feed?
-fn is_in(message: &Message, feed: Feed) -> bool
-    ensures { result ≡ (told message.now).0.on feed }
-{
-    match (message, feed) {
-        (Message::Event(_), _) => true,
-        (Message::Directory(_), _) => true,
-        (Message::TradingAction(_), _) => true,
-        (Message::Restriction(_), _) => true,
-        (Message::Quote(_), Feed::Bbbo) => true,
-        (Message::Sale(_), Feed::LastSale) => true,
-        (Message::SaleCancel(_), Feed::LastSale) => true,
-        (Message::Quote(_), _) => false,
-        (Message::Sale(_), _) => false,
-        (Message::SaleCancel(_), _) => false,
-        (_, Feed::Depth) => true,
-        _ => false,
-    }
-}
-
-// How long the message is.
-fn size(message: &Message) -> usize
-    ensures { result ≡ (told message.now).0.size }
+// The fields after the time stamp of a message that has passed, into a buffer that is long enough.
+fn put_fields(buffer: &mut [u8], message: &Message)
+    requires { ((told message.now).0.size ≤ length buffer.old) × (AllNarrow (told message.now).0.fields (drop 2 (told message.now).1)) }
+    ensures bytes { buffer.new ≡ placed (told message.now).0.fields (drop 2 (told message.now).1) buffer.old }
+    ensures widths { Widths (told message.now).0.fields (drop 2 (told message.now).1) }
 {
     match message {
-        Message::Event(_) => 12,
-        Message::Directory(_) => 25,
-        Message::TradingAction(_) => 20,
-        Message::Restriction(_) => 20,
-        Message::Add(_) => 40,
-        Message::Execute(_) => 31,
-        Message::Cancel(_) => 23,
-        Message::Delete(_) => 19,
-        Message::Replace(_) => 39,
-        Message::Correct(_) => 39,
-        Message::Break(_) => 19,
-        Message::Quote(_) => 43,
-        Message::Sale(_) => 39,
-        Message::SaleCancel(_) => 39,
+        Message::Event(m) => put(buffer, 11, &[m.event as u8]),
+        Message::Directory(m) => rows::directory(buffer, m),
+        Message::TradingAction(m) => rows::stock_and_code(buffer, m.stock, m.state),
+        Message::Restriction(m) => rows::stock_and_code(buffer, m.stock, m.restriction),
+        Message::Add(m) => rows::add(buffer, m),
+        Message::Execute(m) => rows::execute(buffer, m),
+        Message::Cancel(m) => rows::cancel(buffer, m),
+        Message::Delete(m) => put(buffer, 11, &m.reference.to_be_bytes()),
+        Message::Replace(m) => rows::change(buffer, m.original, m.new_reference, m.shares, m.price),
+        Message::Correct(m) => rows::change(
+            buffer,
+            m.match_number,
+            m.new_match_number,
+            m.shares,
+            m.price,
+        ),
+        Message::Break(m) => put(buffer, 11, &m.match_number.to_be_bytes()),
+        Message::Quote(m) => rows::quote(buffer, m),
+        Message::Sale(m) | Message::SaleCancel(m) => rows::sale(buffer, m),
     }
 }
 
 // A message that has passed, into the first bytes of a buffer that is long enough.
-fn put_message(message: &Message, buffer: &mut [u8])
-    requires { ((told message.now).0.size ≤ length buffer.old) × (AllNarrow (every_field (told message.now).0) (told message.now).1) }
+fn put_message(buffer: &mut [u8], message: &Message)
+    requires { ((told message.now).0.size ≤ length buffer.old) × ((11 ≤ length buffer.old) × (AllNarrow (every_field (told message.now).0) (told message.now).1)) }
     ensures { Put (told message.now) buffer.old buffer.new }
 {
-    match message {
-        Message::Event(m) => rows::event(buffer, m),
-        Message::Directory(m) => rows::directory(buffer, m),
-        Message::TradingAction(m) => rows::trading_action(buffer, m),
-        Message::Restriction(m) => rows::restriction(buffer, m),
-        Message::Add(m) => rows::add(buffer, m),
-        Message::Execute(m) => rows::execute(buffer, m),
-        Message::Cancel(m) => rows::cancel(buffer, m),
-        Message::Delete(m) => rows::delete(buffer, m),
-        Message::Replace(m) => rows::replace(buffer, m),
-        Message::Correct(m) => rows::correct(buffer, m),
-        Message::Break(m) => rows::broken(buffer, m),
-        Message::Quote(m) => rows::quote(buffer, m),
-        Message::Sale(m) => rows::sale(buffer, 'T', m),
-        Message::SaleCancel(m) => rows::sale(buffer, 'X', m),
-    }
+    put_head(buffer, message.kind().letter(), message.head());
+    put_fields(buffer, message);
 }
 
 /// Writes a message of a feed into the first bytes of a buffer, and answers how many they are; the others stay as they were.
@@ -88,14 +62,15 @@ pub fn write(feed: Feed, message: &Message, buffer: &mut [u8]) -> Result<usize, 
     ensures bytes { buffer.new ≡ buffer_after result (told message.now) buffer.old }
     ensures again { IfOk result (λ n. decoding feed (take n buffer.new) ≡ Ok (as_written (told message.now))) }
 {
-    if !is_in(message, feed) {
-        return Err(WireFault::Bytes(BytesFault::NotInFeed));
+    let kind = message.kind();
+    if !kind.is_on(feed) {
+        return Err(BytesFault::NotInFeed.into());
     }
     message.judge()?;
-    let size = size(message);
+    let size = kind.size();
     if buffer.len() < size {
-        return Err(WireFault::Bytes(BytesFault::ShortBuffer(buffer.len())));
+        return Err(BytesFault::ShortBuffer(buffer.len()).into());
     }
-    put_message(message, buffer);
+    put_message(buffer, message);
     Ok(size)
 }

@@ -1,156 +1,101 @@
-//! Each kind of message put into the first bytes of a buffer, as its row has it.
+//! The fields of each kind of message after the time stamp, put into a buffer as its row has them.
 
-ghost use Rattle.std.specs.Prelude.{◌≡◌, ◌<◌, ◌≤◌, length};
-ghost use Rattle.wire.specs.Layout.{digits};
-ghost use Rattle.wire.specs.Table.{every_field, row_S, row_R, row_H, row_Y, row_A, row_E, row_X, row_D, row_U, row_C, row_B, row_Q, row_T};
-ghost use Rattle.wire.specs.Told.{of_event, of_directory, of_trading_action, of_restriction, of_add, of_execute, of_cancel, of_delete, of_replace, of_correct, of_break, of_quote, of_sale};
-ghost use Rattle.encode.specs.Laying.{laid, placed, AllNarrow, Widths, Put};
+ghost use Rattle.std.specs.Prelude.{◌≡◌, ◌<◌, ◌≤◌, [], ◌∷◌, drop, length};
+ghost use Rattle.wire.specs.Table.{figure, row_R, row_H, row_A, row_E, row_X, row_U, row_Q, row_T};
+ghost use Rattle.wire.specs.Told.{of_symbol, of_directory, of_add, of_execute, of_cancel, of_quote, of_sale};
+ghost use Rattle.encode.specs.Laying.{placed, AllNarrow, Widths};
 
-use crate::put::{put_code, put_head, put_long, put_quad, put_symbol};
-use wire::message::{
-    Add, Break, Cancel, Correct, Delete, Directory, Event, Execute, Quote, Replace, Restriction,
-    Sale, TradingAction,
-};
+use crate::put::put;
+use wire::message::{Add, Cancel, Directory, Execute, Quote, Sale, Symbol};
 
-// S: event.
-pub(crate) fn event(buffer: &mut [u8], m: &Event)
-    requires { (12 ≤ length buffer.old) × (AllNarrow (every_field row_S) (of_event m.now)) }
-    ensures { Put (row_S, of_event m.now) buffer.old buffer.new }
-{
-    put_head(buffer, 'S', m.head);
-    put_code(buffer, 11, m.event);
-}
-
-// R: stock, category, lot, authenticity.
+// Stock, category, lot, authenticity.
 pub(crate) fn directory(buffer: &mut [u8], m: &Directory)
-    requires { (25 ≤ length buffer.old) × (AllNarrow (every_field row_R) (of_directory m.now)) }
-    ensures { Put (row_R, of_directory m.now) buffer.old buffer.new }
+    requires { (25 ≤ length buffer.old) × (AllNarrow row_R.fields (drop 2 (of_directory m.now))) }
+    ensures bytes { buffer.new ≡ placed row_R.fields (drop 2 (of_directory m.now)) buffer.old }
+    ensures widths { Widths row_R.fields (drop 2 (of_directory m.now)) }
 {
-    put_head(buffer, 'R', m.head);
-    put_symbol(buffer, 11, m.stock);
-    put_code(buffer, 19, m.category);
-    put_quad(buffer, 20, m.lot);
-    put_code(buffer, 24, m.authenticity);
+    put(buffer, 11, m.stock.bytes);
+    put(buffer, 19, &[m.category as u8]);
+    put(buffer, 20, &m.lot.to_be_bytes());
+    put(buffer, 24, &[m.authenticity as u8]);
 }
 
-// H: stock, state.
-pub(crate) fn trading_action(buffer: &mut [u8], m: &TradingAction)
-    requires { (20 ≤ length buffer.old) × (AllNarrow (every_field row_H) (of_trading_action m.now)) }
-    ensures { Put (row_H, of_trading_action m.now) buffer.old buffer.new }
-{
-    put_head(buffer, 'H', m.head);
-    put_symbol(buffer, 11, m.stock);
-    put_code(buffer, 19, m.state);
-}
-
-// Y: stock, restriction.
-pub(crate) fn restriction(buffer: &mut [u8], m: &Restriction)
-    requires { (20 ≤ length buffer.old) × (AllNarrow (every_field row_Y) (of_restriction m.now)) }
-    ensures { Put (row_Y, of_restriction m.now) buffer.old buffer.new }
-{
-    put_head(buffer, 'Y', m.head);
-    put_symbol(buffer, 11, m.stock);
-    put_code(buffer, 19, m.restriction);
-}
-
-// A: reference, side, shares, stock, price.
+// Reference, side, shares, stock, price.
 pub(crate) fn add(buffer: &mut [u8], m: &Add)
-    requires { (40 ≤ length buffer.old) × (AllNarrow (every_field row_A) (of_add m.now)) }
-    ensures { Put (row_A, of_add m.now) buffer.old buffer.new }
+    requires { (40 ≤ length buffer.old) × (AllNarrow row_A.fields (drop 2 (of_add m.now))) }
+    ensures bytes { buffer.new ≡ placed row_A.fields (drop 2 (of_add m.now)) buffer.old }
+    ensures widths { Widths row_A.fields (drop 2 (of_add m.now)) }
 {
-    put_head(buffer, 'A', m.head);
-    put_long(buffer, 11, m.reference);
-    put_code(buffer, 19, m.side);
-    put_quad(buffer, 20, m.shares);
-    put_symbol(buffer, 24, m.stock);
-    put_long(buffer, 32, m.price);
+    put(buffer, 11, &m.reference.to_be_bytes());
+    put(buffer, 19, &[m.side as u8]);
+    put(buffer, 20, &m.shares.to_be_bytes());
+    put(buffer, 24, m.stock.bytes);
+    put(buffer, 32, &m.price.to_be_bytes());
 }
 
-// E: reference, shares, match.
+// Reference, shares, match.
 pub(crate) fn execute(buffer: &mut [u8], m: &Execute)
-    requires { (31 ≤ length buffer.old) × (AllNarrow (every_field row_E) (of_execute m.now)) }
-    ensures { Put (row_E, of_execute m.now) buffer.old buffer.new }
+    requires { 31 ≤ length buffer.old }
+    ensures bytes { buffer.new ≡ placed row_E.fields (drop 2 (of_execute m.now)) buffer.old }
+    ensures widths { Widths row_E.fields (drop 2 (of_execute m.now)) }
 {
-    put_head(buffer, 'E', m.head);
-    put_long(buffer, 11, m.reference);
-    put_quad(buffer, 19, m.shares);
-    put_long(buffer, 23, m.match_number);
+    put(buffer, 11, &m.reference.to_be_bytes());
+    put(buffer, 19, &m.shares.to_be_bytes());
+    put(buffer, 23, &m.match_number.to_be_bytes());
 }
 
-// X of Depth: reference, shares.
+// Reference, shares.
 pub(crate) fn cancel(buffer: &mut [u8], m: &Cancel)
-    requires { (23 ≤ length buffer.old) × (AllNarrow (every_field row_X) (of_cancel m.now)) }
-    ensures { Put (row_X, of_cancel m.now) buffer.old buffer.new }
+    requires { 23 ≤ length buffer.old }
+    ensures bytes { buffer.new ≡ placed row_X.fields (drop 2 (of_cancel m.now)) buffer.old }
+    ensures widths { Widths row_X.fields (drop 2 (of_cancel m.now)) }
 {
-    put_head(buffer, 'X', m.head);
-    put_long(buffer, 11, m.reference);
-    put_quad(buffer, 19, m.shares);
+    put(buffer, 11, &m.reference.to_be_bytes());
+    put(buffer, 19, &m.shares.to_be_bytes());
 }
 
-// D: reference.
-pub(crate) fn delete(buffer: &mut [u8], m: &Delete)
-    requires { (19 ≤ length buffer.old) × (AllNarrow (every_field row_D) (of_delete m.now)) }
-    ensures { Put (row_D, of_delete m.now) buffer.old buffer.new }
+// An order or a trade that gives way to another: the old one, the new one, shares, price.
+pub(crate) fn change(buffer: &mut [u8], old: u64, new: u64, shares: u32, price: u64)
+    requires { 39 ≤ length buffer.old }
+    ensures bytes { buffer.new ≡ placed row_U.fields (figure old ∷ figure new ∷ figure shares ∷ figure price ∷ []) buffer.old }
+    ensures widths { Widths row_U.fields (figure old ∷ figure new ∷ figure shares ∷ figure price ∷ []) }
 {
-    put_head(buffer, 'D', m.head);
-    put_long(buffer, 11, m.reference);
+    put(buffer, 11, &old.to_be_bytes());
+    put(buffer, 19, &new.to_be_bytes());
+    put(buffer, 27, &shares.to_be_bytes());
+    put(buffer, 31, &price.to_be_bytes());
 }
 
-// U: original, new reference, shares, price.
-pub(crate) fn replace(buffer: &mut [u8], m: &Replace)
-    requires { (39 ≤ length buffer.old) × (AllNarrow (every_field row_U) (of_replace m.now)) }
-    ensures { Put (row_U, of_replace m.now) buffer.old buffer.new }
+// A stock and one letter: its state, or its restriction.
+pub(crate) fn stock_and_code(buffer: &mut [u8], stock: Symbol, code: char)
+    requires { (20 ≤ length buffer.old) × ((length stock.bytes.now ≡ 8) × (code < 256)) }
+    ensures { buffer.new ≡ placed row_H.fields (of_symbol stock.entry ∷ figure code ∷ []) buffer.old }
 {
-    put_head(buffer, 'U', m.head);
-    put_long(buffer, 11, m.original);
-    put_long(buffer, 19, m.new_reference);
-    put_quad(buffer, 27, m.shares);
-    put_long(buffer, 31, m.price);
+    put(buffer, 11, stock.bytes);
+    put(buffer, 19, &[code as u8]);
 }
 
-// C: match, new match, shares, price.
-pub(crate) fn correct(buffer: &mut [u8], m: &Correct)
-    requires { (39 ≤ length buffer.old) × (AllNarrow (every_field row_C) (of_correct m.now)) }
-    ensures { Put (row_C, of_correct m.now) buffer.old buffer.new }
-{
-    put_head(buffer, 'C', m.head);
-    put_long(buffer, 11, m.match_number);
-    put_long(buffer, 19, m.new_match_number);
-    put_quad(buffer, 27, m.shares);
-    put_long(buffer, 31, m.price);
-}
-
-// B: match.
-pub(crate) fn broken(buffer: &mut [u8], m: &Break)
-    requires { (19 ≤ length buffer.old) × (AllNarrow (every_field row_B) (of_break m.now)) }
-    ensures { Put (row_B, of_break m.now) buffer.old buffer.new }
-{
-    put_head(buffer, 'B', m.head);
-    put_long(buffer, 11, m.match_number);
-}
-
-// Q: stock, bid, bid size, offer, offer size.
+// Stock, bid, bid size, offer, offer size.
 pub(crate) fn quote(buffer: &mut [u8], m: &Quote)
-    requires { (43 ≤ length buffer.old) × (AllNarrow (every_field row_Q) (of_quote m.now)) }
-    ensures { Put (row_Q, of_quote m.now) buffer.old buffer.new }
+    requires { (43 ≤ length buffer.old) × (AllNarrow row_Q.fields (drop 2 (of_quote m.now))) }
+    ensures bytes { buffer.new ≡ placed row_Q.fields (drop 2 (of_quote m.now)) buffer.old }
+    ensures widths { Widths row_Q.fields (drop 2 (of_quote m.now)) }
 {
-    put_head(buffer, 'Q', m.head);
-    put_symbol(buffer, 11, m.stock);
-    put_long(buffer, 19, m.bid);
-    put_quad(buffer, 27, m.bid_size);
-    put_long(buffer, 31, m.offer);
-    put_quad(buffer, 39, m.offer_size);
+    put(buffer, 11, m.stock.bytes);
+    put(buffer, 19, &m.bid.to_be_bytes());
+    put(buffer, 27, &m.bid_size.to_be_bytes());
+    put(buffer, 31, &m.offer.to_be_bytes());
+    put(buffer, 39, &m.offer_size.to_be_bytes());
 }
 
-// T and X of Last Sale, by their letter: stock, match, price, size.
-pub(crate) fn sale(buffer: &mut [u8], letter: char, m: &Sale)
-    requires { (39 ≤ length buffer.old) × ((AllNarrow (every_field row_T) (of_sale m.now)) × (letter < 256)) }
-    ensures bytes { buffer.new ≡ placed (every_field row_T) (of_sale m.now) (laid 0 (digits 1 letter) buffer.old) }
-    ensures widths { Widths (every_field row_T) (of_sale m.now) }
+// Stock, match, price, size.
+pub(crate) fn sale(buffer: &mut [u8], m: &Sale)
+    requires { (39 ≤ length buffer.old) × (AllNarrow row_T.fields (drop 2 (of_sale m.now))) }
+    ensures bytes { buffer.new ≡ placed row_T.fields (drop 2 (of_sale m.now)) buffer.old }
+    ensures widths { Widths row_T.fields (drop 2 (of_sale m.now)) }
 {
-    put_head(buffer, letter, m.head);
-    put_symbol(buffer, 11, m.stock);
-    put_long(buffer, 19, m.match_number);
-    put_long(buffer, 27, m.price);
-    put_quad(buffer, 35, m.size);
+    put(buffer, 11, m.stock.bytes);
+    put(buffer, 19, &m.match_number.to_be_bytes());
+    put(buffer, 27, &m.price.to_be_bytes());
+    put(buffer, 35, &m.size.to_be_bytes());
 }

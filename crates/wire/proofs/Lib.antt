@@ -1,2 +1,1 @@
 pub mod Ruling
-pub mod Scanning

@@ -1,5 +1,5 @@
 -- The formats of the messages: one row for each, to be compared with the format by eye.
-use Rattle.std.specs.Prelude.{ℕ, Bool, true, false, List, [], ◌∷◌, Some, None, codes, Option, slice_index}
+use Rattle.std.specs.Prelude.{ℕ, Bool, true, false, cond, ◌&&◌, List, [], ◌∷◌, Some, None, codes, Option, ◌==◌, slice_index}
 use Prim.Native.String.{String}
 pub use Rattle.codes.specs.Letters.{events, categories, authenticities, sides, states, restrictions}
 use Rattle.wire.specs.declared.message.Feed.{Feed}
@@ -152,6 +152,11 @@ row_sale_X = row "X" last_sale 39 some (symbol 11 ∷ name 19 ∷ price 27 ∷ s
 abbrev pub table : List Row
 table =
     row_S ∷ row_R ∷ row_H ∷ row_Y ∷ row_A ∷ row_E ∷ row_X ∷ row_D ∷ row_U ∷ row_C ∷ row_B ∷ row_Q ∷ row_T ∷ row_sale_X ∷ []
+
+-- The first row with this letter in this feed.
+abbrev pub find : List Row → Feed → ℕ → Option Row
+find [] f k = None
+find (r ∷ rs) f k = cond (k == r.letter && r.on f) (Some r) (find rs f k)
 
 -- The fields of a row from the locate on: two bytes of locate, eight of time stamp, and its own.
 abbrev pub every_field : Row → List Field

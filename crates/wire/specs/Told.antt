@@ -101,3 +101,20 @@ told (message.Break m) = (row_B, of_break m)
 told (message.Quote m) = (row_Q, of_quote m)
 told (message.Sale m) = (row_T, of_sale m)
 told (message.SaleCancel m) = (row_sale_X, of_sale m)
+
+-- A message's locate and time stamp.
+abbrev pub head_of : Message → Head
+head_of (message.Event m) = m.head
+head_of (message.Directory m) = m.head
+head_of (message.TradingAction m) = m.head
+head_of (message.Restriction m) = m.head
+head_of (message.Add m) = m.head
+head_of (message.Execute m) = m.head
+head_of (message.Cancel m) = m.head
+head_of (message.Delete m) = m.head
+head_of (message.Replace m) = m.head
+head_of (message.Correct m) = m.head
+head_of (message.Break m) = m.head
+head_of (message.Quote m) = m.head
+head_of (message.Sale m) = m.head
+head_of (message.SaleCancel m) = m.head

@@ -5,7 +5,7 @@ ghost use Rattle.wire.specs.Fault.{told};
 ghost use Rattle.wire.specs.declared.fault.WireFault.TheVariants.{Bytes as bytes_refused, Fields as fields_refused};
 
 /// Where a question is asked.
-#[derive(Clone, Copy, PartialEq, Eq)]
+#[derive(Clone, Copy, PartialEq, Eq, Debug)]
 pub enum Layer {
     Bytes,
     Fields,
@@ -14,7 +14,7 @@ pub enum Layer {
 }
 
 /// A question on the bytes as a whole that was answered by no; where its place varies, with that place.
-#[derive(Clone, Copy, PartialEq, Eq)]
+#[derive(Clone, Copy, PartialEq, Eq, Debug)]
 pub enum BytesFault {
     Empty,
     NotInFeed,
@@ -23,7 +23,7 @@ pub enum BytesFault {
 }
 
 /// A question on a field that was answered by no; where its place varies, with the field's offset.
-#[derive(Clone, Copy, PartialEq, Eq)]
+#[derive(Clone, Copy, PartialEq, Eq, Debug)]
 pub enum FieldsFault {
     WrongLocate,
     BadSymbol(usize),
@@ -33,7 +33,7 @@ pub enum FieldsFault {
 }
 
 /// Why a message is refused before any book sees it.
-#[derive(Clone, Copy, PartialEq, Eq)]
+#[derive(Clone, Copy, PartialEq, Eq, Debug)]
 pub enum WireFault {
     Bytes(BytesFault),
     Fields(FieldsFault),
@@ -55,46 +55,42 @@ impl From<FieldsFault> for WireFault {
     }
 }
 
+// The questions have numbers for a buyer to read; the code passes on the enums.
 impl WireFault {
+    /// Its number, layer and place, a row for each question.
+    fn told(self) -> (u8, Layer, usize)
+        ensures { result ≡ told self }
+    {
+        match self {
+            WireFault::Bytes(BytesFault::Empty) => (1, Layer::Bytes, 0),
+            WireFault::Bytes(BytesFault::NotInFeed) => (2, Layer::Bytes, 0),
+            WireFault::Bytes(BytesFault::WrongLength(place)) => (3, Layer::Bytes, place),
+            WireFault::Bytes(BytesFault::ShortBuffer(place)) => (9, Layer::Bytes, place),
+            WireFault::Fields(FieldsFault::WrongLocate) => (4, Layer::Fields, 1),
+            WireFault::Fields(FieldsFault::BadSymbol(place)) => (5, Layer::Fields, place),
+            WireFault::Fields(FieldsFault::UnlistedCode(place)) => (6, Layer::Fields, place),
+            WireFault::Fields(FieldsFault::OutOfBounds(place)) => (7, Layer::Fields, place),
+            WireFault::Fields(FieldsFault::OverLimit(place)) => (8, Layer::Fields, place),
+        }
+    }
+
     /// The question's number.
     pub fn number(self) -> u8
         ensures { result ≡ (told self).0 }
     {
-        match self {
-            WireFault::Bytes(BytesFault::Empty) => 1,
-            WireFault::Bytes(BytesFault::NotInFeed) => 2,
-            WireFault::Bytes(BytesFault::WrongLength(_)) => 3,
-            WireFault::Bytes(BytesFault::ShortBuffer(_)) => 9,
-            WireFault::Fields(FieldsFault::WrongLocate) => 4,
-            WireFault::Fields(FieldsFault::BadSymbol(_)) => 5,
-            WireFault::Fields(FieldsFault::UnlistedCode(_)) => 6,
-            WireFault::Fields(FieldsFault::OutOfBounds(_)) => 7,
-            WireFault::Fields(FieldsFault::OverLimit(_)) => 8,
-        }
+        self.told().0
     }
 
     pub fn layer(self) -> Layer
         ensures { result ≡ (told self).1 }
     {
-        match self {
-            WireFault::Bytes(_) => Layer::Bytes,
-            WireFault::Fields(_) => Layer::Fields,
-        }
+        self.told().1
     }
 
     /// The offset that the question is about.
     pub fn place(self) -> usize
         ensures { result ≡ (told self).2 }
     {
-        match self {
-            WireFault::Bytes(BytesFault::Empty | BytesFault::NotInFeed) => 0,
-            WireFault::Bytes(BytesFault::WrongLength(place) | BytesFault::ShortBuffer(place)) =>
-                place,
-            WireFault::Fields(FieldsFault::WrongLocate) => 1,
-            WireFault::Fields(FieldsFault::BadSymbol(place)) => place,
-            WireFault::Fields(FieldsFault::UnlistedCode(place)) => place,
-            WireFault::Fields(FieldsFault::OutOfBounds(place)) => place,
-            WireFault::Fields(FieldsFault::OverLimit(place)) => place,
-        }
+        self.told().2
     }
 }

@@ -1,37 +1,27 @@
 //! The questions that a message's fields must pass, in rising offset.
 
-ghost use Rattle.std.specs.Prelude.{◌≡◌};
-ghost use Rattle.wire.specs.Judging.{row_judged};
-ghost use Rattle.wire.specs.Table.{row_S, row_R, row_A, row_E, row_D, row_H, row_Y, row_X, row_U, row_C, row_B, row_Q, row_T};
-ghost use Rattle.wire.specs.Told.{told, of_event, of_directory, of_add, of_execute, of_delete, of_trading_action, of_restriction, of_cancel, of_replace, of_correct, of_break, of_quote, of_sale};
+ghost use Rattle.std.specs.Prelude.{◌≡◌, ◌*◌, ◌≤◌, is_some, nat_le};
+ghost use Rattle.wire.specs.Judging.{judged, verdict, after, row_judged};
+ghost use Rattle.wire.specs.Table.{symbol, figure, shares as shares_field, price as price_field, row_R, row_A, row_Q, row_T};
+ghost use Rattle.wire.specs.Told.{told, of_symbol, of_directory, of_add, of_quote, of_sale};
+ghost use Rattle.wire.specs.declared.fault.FieldsFault.TheVariants.{UnlistedCode as unlisted, OverLimit as over_limit};
 
 use crate::fault::FieldsFault;
-use crate::fields::{
-    listed, no_locate, price_within, product_within, quoted_within, shares_within, some_locate,
-};
+use crate::fields::{MOST_PRICE, MOST_SHARES, ask, listed, product_within, within};
 use crate::message::{
-    Add, Break, Cancel, Correct, Delete, Directory, Event, Execute, Message, Quote, Replace,
-    Restriction, Sale, TradingAction,
+    Add, Cancel, Correct, Directory, Execute, Message, Quote, Replace, Sale, Symbol,
 };
 use codes::{
     authenticity_number, category_number, event_number, restriction_number, side_number,
     state_number,
 };
 
-impl Event {
-    pub(crate) fn judge(&self) -> Result<(), FieldsFault>
-        ensures { result ≡ row_judged row_S (of_event self.now) }
-    {
-        no_locate(self.head.locate)?;
-        listed(event_number(self.event), 11)
-    }
-}
-
 impl Directory<'_> {
-    pub(crate) fn judge(&self) -> Result<(), FieldsFault>
+    // The fields after its head, once the locate has passed, as in all that follow.
+    fn judge_fields(&self) -> Result<(), FieldsFault>
+        requires { 1 ≤ self.now.head.locate }
         ensures { result ≡ row_judged row_R (of_directory self.now) }
     {
-        some_locate(self.head.locate)?;
         self.stock.judge(11)?;
         listed(category_number(self.category), 19)?;
         listed(authenticity_number(self.authenticity), 24)
@@ -39,115 +29,56 @@ impl Directory<'_> {
 }
 
 impl Add<'_> {
-    pub(crate) fn judge(&self) -> Result<(), FieldsFault>
+    fn judge_fields(&self) -> Result<(), FieldsFault>
+        requires { 1 ≤ self.now.head.locate }
         ensures { result ≡ row_judged row_A (of_add self.now) }
     {
-        some_locate(self.head.locate)?;
         listed(side_number(self.side), 19)?;
-        shares_within(self.shares, 20)?;
+        within(self.shares as u64, 1..=MOST_SHARES, 20)?;
         self.stock.judge(24)?;
-        price_within(self.price, 32)?;
+        within(self.price, 1..=MOST_PRICE, 32)?;
         product_within(self.price, self.shares, 32)
     }
 }
 
-impl Execute {
-    pub(crate) fn judge(&self) -> Result<(), FieldsFault>
-        ensures { result ≡ row_judged row_E (of_execute self.now) }
-    {
-        some_locate(self.head.locate)?;
-        shares_within(self.shares, 19)
-    }
-}
-
-impl Delete {
-    pub(crate) fn judge(&self) -> Result<(), FieldsFault>
-        ensures { result ≡ row_judged row_D (of_delete self.now) }
-    {
-        some_locate(self.head.locate)
-    }
-}
-
-impl TradingAction<'_> {
-    pub(crate) fn judge(&self) -> Result<(), FieldsFault>
-        ensures { result ≡ row_judged row_H (of_trading_action self.now) }
-    {
-        some_locate(self.head.locate)?;
-        self.stock.judge(11)?;
-        listed(state_number(self.state), 19)
-    }
-}
-
-impl Restriction<'_> {
-    pub(crate) fn judge(&self) -> Result<(), FieldsFault>
-        ensures { result ≡ row_judged row_Y (of_restriction self.now) }
-    {
-        some_locate(self.head.locate)?;
-        self.stock.judge(11)?;
-        listed(restriction_number(self.restriction), 19)
-    }
-}
-
-impl Cancel {
-    pub(crate) fn judge(&self) -> Result<(), FieldsFault>
-        ensures { result ≡ row_judged row_X (of_cancel self.now) }
-    {
-        some_locate(self.head.locate)?;
-        shares_within(self.shares, 19)
-    }
-}
-
-impl Replace {
-    pub(crate) fn judge(&self) -> Result<(), FieldsFault>
-        ensures { result ≡ row_judged row_U (of_replace self.now) }
-    {
-        some_locate(self.head.locate)?;
-        shares_within(self.shares, 27)?;
-        price_within(self.price, 31)?;
-        product_within(self.price, self.shares, 31)
-    }
-}
-
-impl Correct {
-    pub(crate) fn judge(&self) -> Result<(), FieldsFault>
-        ensures { result ≡ row_judged row_C (of_correct self.now) }
-    {
-        some_locate(self.head.locate)?;
-        shares_within(self.shares, 27)?;
-        price_within(self.price, 31)?;
-        product_within(self.price, self.shares, 31)
-    }
-}
-
-impl Break {
-    pub(crate) fn judge(&self) -> Result<(), FieldsFault>
-        ensures { result ≡ row_judged row_B (of_break self.now) }
-    {
-        some_locate(self.head.locate)
-    }
-}
-
 impl Quote<'_> {
-    pub(crate) fn judge(&self) -> Result<(), FieldsFault>
+    fn judge_fields(&self) -> Result<(), FieldsFault>
+        requires { 1 ≤ self.now.head.locate }
         ensures { result ≡ row_judged row_Q (of_quote self.now) }
     {
-        some_locate(self.head.locate)?;
         self.stock.judge(11)?;
-        quoted_within(self.bid, 19)?;
-        quoted_within(self.offer, 31)
+        within(self.bid, 0..=MOST_PRICE, 19)?;
+        within(self.offer, 0..=MOST_PRICE, 31)
     }
 }
 
 impl Sale<'_> {
-    pub(crate) fn judge(&self) -> Result<(), FieldsFault>
+    fn judge_fields(&self) -> Result<(), FieldsFault>
+        requires { 1 ≤ self.now.head.locate }
         ensures { result ≡ row_judged row_T (of_sale self.now) }
     {
-        some_locate(self.head.locate)?;
         self.stock.judge(11)?;
-        price_within(self.price, 27)?;
-        shares_within(self.size, 35)?;
+        within(self.price, 1..=MOST_PRICE, 27)?;
+        within(self.size as u64, 1..=MOST_SHARES, 35)?;
         product_within(self.price, self.size, 27)
     }
+}
+
+// A stock and one code, whose number this is.
+fn judge_stock_and_code(stock: Symbol, number: Option<u8>) -> Result<(), FieldsFault>
+    ensures { result ≡ after (judged (symbol 11) (of_symbol stock.entry)) (verdict (is_some number) (unlisted 19)) }
+{
+    stock.judge(11)?;
+    listed(number, 19)
+}
+
+// The shares and the price of an order or a trade that gives way to another.
+fn judge_change(shares: u32, price: u64) -> Result<(), FieldsFault>
+    ensures { result ≡ after (judged (shares_field 27) (figure shares)) (after (judged (price_field 31) (figure price)) (verdict (nat_le (price * shares) 100000000000000) (over_limit 31))) }
+{
+    within(shares as u64, 1..=MOST_SHARES, 27)?;
+    within(price, 1..=MOST_PRICE, 31)?;
+    product_within(price, shares, 31)
 }
 
 impl Message<'_> {
@@ -155,21 +86,27 @@ impl Message<'_> {
     pub fn judge(&self) -> Result<(), FieldsFault>
         ensures { result ≡ row_judged (told self.now).0 (told self.now).1 }
     {
+        let is_event = matches!(self, Message::Event(_));
+        ask(
+            (self.head().locate == 0) == is_event,
+            FieldsFault::WrongLocate,
+        )?;
         match self {
-            Message::Event(m) => m.judge(),
-            Message::Directory(m) => m.judge(),
-            Message::Add(m) => m.judge(),
-            Message::Execute(m) => m.judge(),
-            Message::Delete(m) => m.judge(),
-            Message::TradingAction(m) => m.judge(),
-            Message::Restriction(m) => m.judge(),
-            Message::Cancel(m) => m.judge(),
-            Message::Replace(m) => m.judge(),
-            Message::Correct(m) => m.judge(),
-            Message::Break(m) => m.judge(),
-            Message::Quote(m) => m.judge(),
-            Message::Sale(m) => m.judge(),
-            Message::SaleCancel(m) => m.judge(),
+            Message::Event(m) => listed(event_number(m.event), 11),
+            Message::Directory(m) => m.judge_fields(),
+            Message::TradingAction(m) => judge_stock_and_code(m.stock, state_number(m.state)),
+            Message::Restriction(m) => judge_stock_and_code(
+                m.stock,
+                restriction_number(m.restriction),
+            ),
+            Message::Add(m) => m.judge_fields(),
+            Message::Execute(Execute { shares, .. }) | Message::Cancel(Cancel { shares, .. }) =>
+                within(*shares as u64, 1..=MOST_SHARES, 19),
+            Message::Delete(_) | Message::Break(_) => Ok(()),
+            Message::Replace(Replace { shares, price, .. })
+            | Message::Correct(Correct { shares, price, .. }) => judge_change(*shares, *price),
+            Message::Quote(m) => m.judge_fields(),
+            Message::Sale(m) | Message::SaleCancel(m) => m.judge_fields(),
         }
     }
 }

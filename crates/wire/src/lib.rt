@@ -7,5 +7,6 @@ pub use codes;
 pub mod fault;
 mod fields;
 mod judging;
+pub mod kind;
 pub mod message;
 pub mod symbols;

@@ -2,21 +2,16 @@
 
 ghost use Rattle.std.specs.Prelude.{◌≡◌, Decides};
 ghost use Rattle.wire.specs.Judging.{judged};
-ghost use Rattle.wire.specs.Symbols.{printable, well_formed, SymbolRule};
+ghost use Rattle.wire.specs.Symbols.{well_formed, SymbolRule};
 ghost use Rattle.wire.specs.Table.{symbol};
 ghost use Rattle.wire.specs.Told.{of_symbol};
 
 use crate::fault::FieldsFault;
+use crate::fields::ask;
 use crate::message::Symbol;
 
-// From 0x21 to 0x7E?
-fn is_printable(b: u8) -> bool
-    ensures { result ≡ printable b }
-{
-    b >= 0x21 && b <= 0x7e
-}
-
 /// Are these a symbol: one to eight bytes from 0x21 to 0x7E, followed only by spaces to eight?
+// A rule of the project: a `for` over the bytes with their index.
 pub fn is_symbol(bytes: &[u8]) -> bool
     ensures test { result ≡ well_formed bytes.now }
     ensures rule { Decides result (SymbolRule bytes.now) }
@@ -26,7 +21,7 @@ pub fn is_symbol(bytes: &[u8]) -> bool
     }
     let mut ended = false;
     for (i, b) in bytes.iter().enumerate() {
-        if is_printable(*b) {
+        if b.is_ascii_graphic() {
             if ended {
                 return false;
             }
@@ -44,10 +39,6 @@ impl Symbol<'_> {
     pub(crate) fn judge(&self, place: usize) -> Result<(), FieldsFault>
         ensures { result ≡ judged (symbol place) (of_symbol self.now) }
     {
-        if is_symbol(self.bytes) {
-            Ok(())
-        } else {
-            Err(FieldsFault::BadSymbol(place))
-        }
+        ask(is_symbol(self.bytes), FieldsFault::BadSymbol(place))
     }
 }

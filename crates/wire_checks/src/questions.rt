@@ -5,10 +5,7 @@ use wire::message::Feed;
 
 /// Is this refused with that number and place?
 fn refused(feed: Feed, bytes: &[u8], number: u8, place: usize) -> bool {
-    match decode(feed, bytes) {
-        Ok(_) => false,
-        Err(fault) => fault.number() == number && fault.place() == place,
-    }
+    decode(feed, bytes).is_err_and(|fault| fault.number() == number && fault.place() == place)
 }
 
 fn passes(feed: Feed, bytes: &[u8]) -> bool {

@@ -6,19 +6,8 @@ use wire::message::{Add, Event, Feed, Head, Message, Quote, Sale, Symbol};
 /// The number and the place of the refusal of a message into this much room, if the buffer is left as it was.
 fn refusal(feed: Feed, message: &Message, room: usize) -> Option<(u8, usize)> {
     let mut whole = [0xEE; 48];
-    if room > whole.len() {
-        return None;
-    }
-    let answer = write(feed, message, &mut whole[0..room]);
-    for b in whole {
-        if b != 0xEE {
-            return None;
-        }
-    }
-    match answer {
-        Ok(_) => None,
-        Err(fault) => Some((fault.number(), fault.place())),
-    }
+    let fault = write(feed, message, whole.get_mut(..room)?).err()?;
+    (whole == [0xEE; 48]).then_some((fault.number(), fault.place()))
 }
 
 fn add(locate: u16, side: char, shares: u32, stock: &[u8], price: u64) -> Message<'_> {

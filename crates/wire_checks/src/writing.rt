@@ -6,24 +6,13 @@ use wire::message::{
     Replace, Restriction, Sale, Symbol, TradingAction,
 };
 
-/// Are these the first bytes of the buffer, and the others still 0xEE?
-fn begins(buffer: &[u8], bytes: &[u8]) -> bool {
-    for (i, b) in buffer.iter().enumerate() {
-        let wanted = if i < bytes.len() { bytes[i] } else { 0xEE };
-        if *b != wanted {
-            return false;
-        }
-    }
-    true
-}
-
-/// Does the message write these bytes, and no other?
+/// Does the message write these bytes, and leave the others as they were?
 fn writes(feed: Feed, message: &Message, bytes: &[u8]) -> bool {
     let mut buffer = [0xEE; 48];
-    match write(feed, message, &mut buffer) {
-        Ok(n) => n == bytes.len() && begins(&buffer, bytes),
-        Err(_) => false,
-    }
+    write(feed, message, &mut buffer) == Ok(bytes.len())
+        && buffer
+            .strip_prefix(bytes)
+            .is_some_and(|rest| rest.iter().all(|b| *b == 0xEE))
 }
 
 fn head(locate: u16, stamp: u64) -> Head {

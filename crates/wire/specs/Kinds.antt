@@ -1,7 +1,7 @@
 -- The row of each kind of message.
 use Rattle.std.specs.Prelude.{Some, None, Option}
-use Rattle.decode.specs.declared.kind.Kind.{Kind}
-use Rattle.decode.specs.declared.kind.Kind.TheVariants as kind
+use Rattle.wire.specs.declared.kind.Kind.{Kind}
+use Rattle.wire.specs.declared.kind.Kind.TheVariants as kind
 use Rattle.wire.specs.Table.{Row, row_S, row_R, row_H, row_Y, row_A, row_E, row_X, row_D, row_U, row_C, row_B, row_Q, row_T, row_sale_X}
 
 -- A kind's row.

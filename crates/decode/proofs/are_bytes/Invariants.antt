@@ -1,6 +1,0 @@
--- What has been seen is bytes.
-use Rattle.std.proofs.Common.{ℕ, ◌<◌, get_or}
-use Rattle.decode.proofs.are_bytes.Given as goal
-
-abbrev pub invariant-loop-b : goal.invariant-loop-b
-invariant-loop-b l = (k : ℕ) → k < l.b-index → get_or l.bytes k 0 < 256
