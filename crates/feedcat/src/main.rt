@@ -10,16 +10,11 @@ use std::{env, io};
 use text::TooShort;
 use wire::message::Feed;
 
-/// How many bytes are read or written at a time.
+/// How many bytes are written at a time.
 const PIECE: usize = 1_048_576;
 
 fn main(rt: HostRuntime) -> io::Result<()> {
-    let mut words = env::args(&rt)?;
-    let feed = match words.nth(1) {
-        Some(word) => feed_named(&word),
-        None => None,
-    };
-    match feed {
+    match env::args(&rt)?.nth(1).and_then(|word| feed_named(&word)) {
         Some(feed) => list(&rt, feed),
         None => println!(rt; "feedcat depth|bbbo|sale < CAPTURE"),
     }
@@ -27,42 +22,24 @@ fn main(rt: HostRuntime) -> io::Result<()> {
 
 /// Lists the input as a capture of this feed.
 fn list(rt: &HostRuntime, feed: Feed) -> io::Result<()> {
-    let input = read_all(rt)?;
+    let mut input = Vec::new(rt.alloc());
+    rt.stdin().read_to_end(&mut input)?;
     let mut out = vec![in rt.alloc(); 0u8; PIECE]?;
     if let Err(fault) = judge(&input) {
         let told = put_index_fault(fault, &mut out);
         return write_told(rt, told, &out);
     }
     let mut listing = Listing::over(feed, &input);
-    for _ in 0..listing.left() {
+    while listing.left() > 0 {
         let len = listing.fill(&mut out);
-        if len == 0 {
-            break;
-        }
         rt.stdout().write_all(&out[..len])?;
     }
     let told = listing.put_summary(&mut out);
     write_told(rt, told, &out)
 }
 
-/// All of standard input.
-fn read_all(rt: &HostRuntime) -> io::Result<Vec<u8>> {
-    let mut piece = vec![in rt.alloc(); 0u8; PIECE]?;
-    let mut input = Vec::new(rt.alloc());
-    for _ in 0..u64::MAX {
-        let len = rt.stdin().read(&mut piece)?;
-        if len == 0 {
-            break;
-        }
-        input.extend_from_slice(&piece[..len])?;
-    }
-    Ok(input)
-}
-
-/// Writes a text that was put to the front of the buffer.
+/// Writes a text that was put to the front of a buffer.
 fn write_told(rt: &HostRuntime, told: Result<usize, TooShort>, out: &[u8]) -> io::Result<()> {
-    match told {
-        Ok(len) => rt.stdout().write_all(&out[..len.min(out.len())]),
-        Err(_) => Err(io::Error::from(io::ErrorKind::Other)),
-    }
+    let len = told.map_err(|_| io::Error::from(io::ErrorKind::Other))?;
+    rt.stdout().write_all(&out[..len.min(out.len())])
 }

@@ -1,3 +1,1 @@
-mod ByKind
-mod Codes
 mod Putting

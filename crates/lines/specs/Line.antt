@@ -1,12 +1,12 @@
 -- A message's line: the number of its pair, and then its type and fields, or why it is refused.
-use Rattle.std.specs.Prelude.{ℕ, cond, List, [], ◌∷◌, ◌++◌, take, Ok, Err, codes, decimal, Result, ◌==◌}
+use Rattle.std.specs.Prelude.{ℕ, cond, List, [], ◌∷◌, ◌++◌, take, drop, Ok, Err, codes, decimal, Result, ◌==◌}
 use Prim.Native.String.{String}
 use Rattle.text.specs.Line.{unfilled}
 use Rattle.wire.specs.declared.fault.WireFault.{WireFault}
 use Rattle.wire.specs.Fault.{told}
 use Rattle.wire.specs.Symbols.{printable}
 use Rattle.wire.specs.Table.{nought, some, free, one_of, within, Field, num, symbol, Value, figure, text, Row, every_field}
-use Rattle.lines.specs.Names.{names}
+use Rattle.lines.specs.Names.{all_named, names_in, names}
 
 -- A code: its letter, a space in quotes; what no code can be is a question mark.
 abbrev pub code_text : ℕ → List ℕ
@@ -41,6 +41,10 @@ fields_text (n ∷ ns) (f ∷ fs) (v ∷ vs) = field_text n (value_text f v) ∷
 -- A message: a space, its letter, and every field.
 abbrev pub message_text : Row × List Value → List (List ℕ)
 message_text m = (codes " " ++ (m.0.letter ∷ [])) ∷ fields_text (names m.0) (every_field m.0) m.1
+
+-- Its fields after the time stamp.
+abbrev pub rest_text : Row × List Value → List (List ℕ)
+rest_text m = fields_text (names_in all_named m.0) m.0.fields (drop 2 m.1)
 
 -- A refusal: its number and its place.
 abbrev pub refusal_text : WireFault → List (List ℕ)

@@ -2,6 +2,7 @@
 use Rattle.std.specs.Prelude.{◌≡◌, ℕ, ◌+◌, ◌<◌, ◌≤◌, List, [], ◌∷◌, length, Ok, Err, Result}
 use Rattle.text.specs.declared.TooShort.{TooShort}
 use Rattle.text.specs.Placed.{written}
+use Rattle.lines.specs.declared.pen.Pen.{Pen}
 
 -- A buffer, and the place that is written next.
 abbrev pub Spot : Type 0
@@ -19,6 +20,10 @@ puts s (t ∷ ts) = puts (put s t) ts
 -- These texts were put into a buffer from a place on.
 abbrev pub Puts : List ℕ → ℕ → List (List ℕ) → List ℕ → ℕ → Type 0
 Puts was at ts after end = puts (was, at) ts ≡ (after, end)
+
+-- These texts were put by a pen, which holds the same buffer still.
+abbrev pub Writes : Pen → List (List ℕ) → Pen → Type 0
+Writes p ts q = (puts (p.buf.now, p.at) ts ≡ (q.buf.now, q.at)) × (length q.buf.now ≡ length p.buf.now) × (q.buf.ghost_name ≡ p.buf.ghost_name)
 
 -- A line is in the buffer from `at` on and ends there, or it was refused, which changes nothing, exactly if fewer than 256 bytes were left.
 abbrev pub Lined : List ℕ → ℕ → List ℕ → List ℕ → Result ℕ TooShort → Type 0

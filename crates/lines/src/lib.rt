@@ -4,5 +4,5 @@
 
 pub mod line;
 mod messages;
-mod pieces;
+mod pen;
 pub mod summary;

@@ -3,10 +3,10 @@
 ghost use Rattle.std.specs.Prelude.{◌≡◌, ◌+◌, ◌≤◌, [], ◌∷◌, length, IfOk};
 ghost use Rattle.decode.specs.Decoding.{told_in};
 ghost use Rattle.lines.specs.Line.{decoded_text, refusal_text, line as line_text};
-ghost use Rattle.lines.specs.Writing.{Puts, Lined};
+ghost use Rattle.lines.specs.Writing.{Writes, Lined};
 
 use crate::messages;
-use crate::pieces::{number, plain};
+use crate::pen::Pen;
 use text::TooShort;
 use wire::fault::WireFault;
 use wire::message::Message;
@@ -28,29 +28,31 @@ pub fn put_line(
     if buf.len() < LINE || buf.len() - LINE < at {
         return Err(TooShort);
     }
-    let at = number(buf, at, b"", pair as u64);
-    let at = body(buf, at, decoded);
-    Ok(plain(buf, at, b"\n"))
+    let mut pen = Pen { buf, at };
+    pen.number(b"", pair as u64);
+    body(&mut pen, decoded);
+    pen.plain(b"\n");
+    Ok(pen.at)
 }
 
 /// What was decoded, or why it is refused, where there is room for it.
-fn body(buf: &mut [u8], at: usize, decoded: &Result<Message<'_>, WireFault>) -> usize
-    requires { at + 200 ≤ length buf.old }
-    ensures puts { Puts buf.old at (decoded_text (told_in decoded.now)) buf.new result }
-    ensures bound { result ≤ at + 200 }
+fn body(pen: &mut Pen<'_>, decoded: &Result<Message<'_>, WireFault>)
+    requires { pen.old.at + 200 ≤ length pen.old.buf.now }
+    ensures writes { Writes pen.old (decoded_text (told_in decoded.now)) pen.new }
+    ensures bound { pen.new.at ≤ pen.old.at + 200 }
 {
     match decoded {
-        Ok(message) => messages::message(buf, at, message),
-        Err(fault) => refusal(buf, at, *fault),
+        Ok(message) => messages::message(pen, message),
+        Err(fault) => refusal(pen, *fault),
     }
 }
 
 /// A refusal's number and place, where there is room for them.
-fn refusal(buf: &mut [u8], at: usize, fault: WireFault) -> usize
-    requires { at + 54 ≤ length buf.old }
-    ensures puts { Puts buf.old at (refusal_text fault) buf.new result }
-    ensures bound { result ≤ at + 54 }
+fn refusal(pen: &mut Pen<'_>, fault: WireFault)
+    requires { pen.old.at + 54 ≤ length pen.old.buf.now }
+    ensures writes { Writes pen.old (refusal_text fault) pen.new }
+    ensures bound { pen.new.at ≤ pen.old.at + 54 }
 {
-    let at = number(buf, at, b" fault ", fault.number() as u64);
-    number(buf, at, b" place ", fault.place() as u64)
+    pen.number(b" fault ", fault.number() as u64);
+    pen.number(b" place ", fault.place() as u64);
 }

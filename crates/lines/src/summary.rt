@@ -5,7 +5,7 @@ ghost use Rattle.lines.specs.Line.{summary as summary_text};
 ghost use Rattle.lines.specs.Writing.{Lined};
 
 use crate::line::LINE;
-use crate::pieces::{number, plain};
+use crate::pen::Pen;
 use text::TooShort;
 
 /// Writes "N messages, M refused, K rewritten differ" to the front of the buffer, and answers how many bytes.
@@ -21,8 +21,10 @@ pub fn put_summary(
     if buf.len() < LINE {
         return Err(TooShort);
     }
-    let at = number(buf, 0, b"", messages as u64);
-    let at = number(buf, at, b" messages, ", refused as u64);
-    let at = number(buf, at, b" refused, ", differ as u64);
-    Ok(plain(buf, at, b" rewritten differ\n"))
+    let mut pen = Pen { buf, at: 0 };
+    pen.number(b"", messages as u64);
+    pen.number(b" messages, ", refused as u64);
+    pen.number(b" refused, ", differ as u64);
+    pen.plain(b" rewritten differ\n");
+    Ok(pen.at)
 }

@@ -1,3 +1,3 @@
 mod Agrees
-mod Paging
+pub mod Paging
 mod WrittenAgain

@@ -1,14 +1,16 @@
 -- A page of lines, one line after another.
 use Rattle.std.proofs.Common.{◌≡◌, ℕ, zero, suc, ◌+◌, ◌-◌, ◌<◌, ◌≤◌, Bool, true, false, cond, List, [], ◌∷◌, ◌++◌, length, is_err, Some, None, Ok, Err, Result, sym, refl, ap, ◌∙◌, append_assoc, append-nil, arith}
 use Rattle.std.proofs.lemmas.Bool.{lt-ltb, le-ltb}
+use mir.Val.{bool_byte}
 use Rattle.wire.specs.declared.fault.WireFault.{WireFault}
 use Rattle.wire.specs.declared.message.Feed.{Feed}
+use Rattle.wire.specs.declared.message.Message.{Message}
 use Rattle.wire.specs.Table.{Row, Value}
 use Rattle.capture.specs.declared.fault.CaptureFault.{CaptureFault}
 use Rattle.capture.specs.Index.{judged, message, messages, found}
 use Rattle.capture.proofs.Found.{is_found, messages_more}
 use Rattle.capture.proofs.Laid.{laid}
-use Rattle.decode.specs.Decoding.{decoding}
+use Rattle.decode.specs.Decoding.{decoding, told_in}
 use Rattle.text.specs.Placed.{written}
 use Rattle.text.proofs.Writes.{Stands, stands_none, stands_more, stands_as}
 use Rattle.lines.specs.Line.{line}
@@ -111,6 +113,15 @@ how_many_next test bytes m s i a b h is before adds =
 abbrev Decoded : Type 0
 Decoded = Result (Row × List Value) WireFault
 
+-- a `bool` as a number
+pub as_number : (b : Bool) → bool_byte b ≡ cond b 1 0
+as_number true = refl
+as_number false = refl
+
+pub is_err-told : (d : Result Message WireFault) → is_err d ≡ is_err (told_in d)
+is_err-told (Ok m) = refl
+is_err-told (Err f) = refl
+
 -- how far a page has come: the lines up to pair i stand, and what is left fits as the whole does
 pub record Going (f : Feed) (bytes : List ℕ) (s : ℕ) (buf : List ℕ) (i refused differ at : ℕ) (now-buf : List ℕ) : Type 0 where
   pub from : s ≤ i
@@ -202,3 +213,12 @@ module _ (f : Feed) (bytes : List ℕ) (s : ℕ) (buf : List ℕ) where
             few = (omega arith, omega arith);
             fits = within;
           }
+
+-- a buffer with room for a line takes one, where one is left
+pub page_some : (f : Feed) (bytes : List ℕ) (k room : ℕ) → k < total bytes → 256 ≤ room → 0 < page_lines f bytes k room
+page_some f bytes k room more wide =
+    let rest = messages bytes (k + 1) (total bytes - (k + 1)) in
+    let m = message bytes k in
+    let e : page_lines f bytes k room ≡ fitting f room k (m ∷ rest) = ap (fitting f room k) (messages_more bytes (total bytes) k more) in
+    let s : fitting f room k (m ∷ rest) ≡ suc (fitting f (room - length (line k (decoding f m))) (k + 1) rest) = rw (le-ltb room 256 wide) refl in
+    omega (arith, e, s)

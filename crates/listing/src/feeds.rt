@@ -5,6 +5,7 @@ ghost use Rattle.listing.specs.Feeds.{NamesFeed};
 use wire::message::Feed;
 
 /// The feed that a word names.
+// Not `FromStr`: `Feed` is another crate's, which knows no names.
 pub fn feed_named(word: &str) -> Option<Feed>
     ensures { NamesFeed word.now result }
 {

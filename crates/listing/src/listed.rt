@@ -14,7 +14,7 @@ use capture::fault::CaptureFault;
 use capture::judge;
 use lines::summary::put_summary;
 use text::TooShort;
-use text::fault_line::put_fault_line;
+use text::fault_line::FaultLine;
 use wire::message::Feed;
 
 impl<'a> Listing<'a> {
@@ -72,5 +72,5 @@ impl<'a> Listing<'a> {
 pub fn put_index_fault(fault: CaptureFault, buf: &mut [u8]) -> Result<usize, TooShort>
     ensures { Placed buf.old 0 (fault_line (index_told fault).0 (index_told fault).1 (index_told fault).2) buf.new result }
 {
-    put_fault_line(buf, fault.number(), fault.place(), fault.pair() as u64)
+    FaultLine::from(fault).put(buf)
 }

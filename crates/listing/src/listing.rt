@@ -9,6 +9,7 @@ use wire::message::Feed;
 #[derive(Drop)]
 pub struct Listing<'a> {
     pub(crate) feed: Feed,
+    // Bytes and a count, not a `Capture`: a refused index is listed too, as one of no messages.
     pub(crate) capture: &'a [u8],
     pub(crate) count: usize,
     pub(crate) next: usize,

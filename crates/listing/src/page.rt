@@ -1,18 +1,16 @@
 //! As many lines of a judged capture as a buffer has room for.
 
-ghost use Rattle.std.specs.Prelude.{◌≡◌, ◌+◌, ◌≤◌, length, is_err, if◌then◌else◌};
+ghost use Rattle.std.specs.Prelude.{◌≡◌, ◌+◌, ◌≤◌, length};
 ghost use Rattle.capture.specs.Index.{messages};
-ghost use Rattle.decode.specs.Decoding.{told_in};
 ghost use Rattle.listing.specs.Paging.{total, how_many, refused_in, page_lines, page_text};
 ghost use Rattle.listing.specs.Rewriting.{differs};
 ghost use Rattle.text.specs.Placed.{written};
 
-use crate::rewriting::one_if_different;
+use crate::rewriting::is_different;
 use capture::message;
 use decode::decode;
 use lines::line::put_line;
-use wire::fault::WireFault;
-use wire::message::{Feed, Message};
+use wire::message::Feed;
 
 /// What was written: so many lines, so many of them of messages that are refused, or differ when written again; so many bytes.
 #[derive(Clone, Copy)]
@@ -41,37 +39,24 @@ pub(crate) fn put_page(
     ensures bound { result.bytes ≤ length buf.old }
     ensures after { buf.new ≡ written buf.old 0 (page_text feed capture.now start (length buf.old)) }
 {
-    let mut pair = start;
-    let mut refused = 0;
-    let mut differ = 0;
-    let mut at = 0;
-    while pair < count {
+    let mut page = Page {
+        lines: 0,
+        refused: 0,
+        differ: 0,
+        bytes: 0,
+    };
+    for pair in start..count {
         let Some(bytes) = message(capture, pair) else {
-            unreachable()
+            unreachable!()
         };
         let decoded = decode(feed, bytes);
-        let Ok(end) = put_line(buf, at, pair, &decoded) else {
+        let Ok(end) = put_line(buf, page.bytes, pair, &decoded) else {
             break;
         };
-        at = end;
-        refused += one_if_refused(&decoded);
-        differ += one_if_different(feed, &decoded, bytes);
-        pair += 1;
+        page.lines += 1;
+        page.refused += usize::from(decoded.is_err());
+        page.differ += usize::from(is_different(feed, &decoded, bytes));
+        page.bytes = end;
     }
-    Page {
-        lines: pair - start,
-        refused,
-        differ,
-        bytes: at,
-    }
-}
-
-/// What a message adds to the number of refused ones.
-fn one_if_refused(decoded: &Result<Message<'_>, WireFault>) -> usize
-    ensures { result ≡ (if is_err (told_in decoded.now) then 1 else 0) }
-{
-    match decoded {
-        Ok(_) => 0,
-        Err(_) => 1,
-    }
+    page
 }

@@ -1,6 +1,6 @@
 //! Writing a decoded message again, to hold it against its bytes.
 
-ghost use Rattle.std.specs.Prelude.{◌≡◌, if◌then◌else◌};
+ghost use Rattle.std.specs.Prelude.{◌≡◌};
 ghost use Rattle.decode.specs.Decoding.{told_in};
 ghost use Rattle.listing.specs.Rewriting.{gives, differs_as};
 ghost use Rattle.wire.specs.Told.{told};
@@ -17,26 +17,20 @@ pub fn rewritten(feed: Feed, message: &Message<'_>, bytes: &[u8]) -> bool
     ensures { result ≡ gives feed (told message.now) bytes.now }
 {
     let mut buffer = [0u8; LONGEST];
+    // A match: `is_ok_and` would index the buffer in a closure, which says no more.
     match write(feed, message, &mut buffer) {
         Ok(len) => &buffer[..len] == bytes,
         Err(_) => false,
     }
 }
 
-/// What a message adds to the number of those that differ when written again.
-pub(crate) fn one_if_different(
+/// Does a decoded message differ when it is written again?
+pub(crate) fn is_different(
     feed: Feed,
     decoded: &Result<Message<'_>, WireFault>,
     bytes: &[u8],
-) -> usize
-    ensures { result ≡ (if differs_as feed (told_in decoded.now) bytes.now then 1 else 0) }
+) -> bool
+    ensures { result ≡ differs_as feed (told_in decoded.now) bytes.now }
 {
-    match decoded {
-        Ok(message) => if rewritten(feed, message, bytes) {
-            0
-        } else {
-            1
-        },
-        Err(_) => 0,
-    }
+    matches!(decoded, Ok(message) if !rewritten(feed, message, bytes))
 }

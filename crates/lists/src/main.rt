@@ -32,6 +32,7 @@ fn main(rt: HostRuntime) -> io::Result<()> {
     Ok(())
 }
 
+// As feedcat lists, through a small buffer: two programs have only the library in common.
 fn one(rt: &HostRuntime, feed: &str, name: &str) -> io::Result<()> {
     let Some(feed) = feed_named(feed) else {
         return println!(rt; "no such feed");
@@ -42,11 +43,8 @@ fn one(rt: &HostRuntime, feed: &str, name: &str) -> io::Result<()> {
         return write_front(rt, put_index_fault(fault, &mut page).unwrap_or(0), &page);
     }
     let mut listing = Listing::over(feed, &input);
-    for _ in 0..listing.left() {
+    while listing.left() > 0 {
         let len = listing.fill(&mut page);
-        if len == 0 {
-            break;
-        }
         write_front(rt, len, &page)?;
     }
     let len = listing.put_summary(&mut page).unwrap_or(0);

@@ -3,7 +3,7 @@ use Rattle.text.specs.Line.{unfilled}
 use Rattle.text.proofs.Lines.{unfilled_le}
 use Rattle.lines.specs.Line.{symbol_text}
 use Rattle.lines.proofs.Putting.{take_min}
-use Rattle.lines.proofs.pieces.unfilled.Goals as goal
+use Rattle.lines.proofs.pen.unfilled.Goals as goal
 
 pub returns : goal.returns
 returns c =
