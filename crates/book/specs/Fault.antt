@@ -4,6 +4,7 @@ use Rattle.wire.specs.Fault.{told}
 use Rattle.wire.specs.declared.fault.Layer.{Layer}
 use Rattle.wire.specs.declared.fault.Layer.TheVariants as layer
 use Rattle.capture.specs.Fault.{told as capture_told}
+use Rattle.text.specs.declared.fault_line.FaultLine.{FaultLine}
 use Rattle.book.specs.declared.fault.BookFault.{BookFault}
 use Rattle.book.specs.declared.fault.BookFault.TheVariants.{TooMany, NotDue, UnknownLocate, OtherSymbol, StocksFull, UnknownReference, UnknownMatch, OtherLocate, NotLive, ReferenceOpen, TooManyShares, MatchUsed, OrdersFull, MatchesFull, ShortBuffer}
 use Rattle.book.specs.declared.fault.FeedFault.{FeedFault}
@@ -38,3 +39,7 @@ feed_told (feed.Book f) = book_told f
 abbrev pub play_told : PlayFault → ℕ × Layer × ℕ × ℕ
 play_told (play.Index f) = ((capture_told f).0, layer.Capture, (capture_told f).1, (capture_told f).2)
 play_told (play.Message pair f) = ((feed_told f).0, (feed_told f).1, (feed_told f).2, pair)
+
+-- what the line of a fault of playing tells: its number, place and pair
+abbrev pub told_line : PlayFault → FaultLine
+told_line f = record { number = (play_told f).0; place = (play_told f).2; pair = (play_told f).3 }

@@ -1,6 +1,7 @@
 pub mod Fault
 pub mod Sums
 pub mod Message
+pub mod Letters
 pub mod Book
 pub mod Day
 pub mod Stocks
@@ -11,3 +12,4 @@ pub mod Play
 pub mod Trace
 pub mod Report
 pub mod Quote
+pub mod Words

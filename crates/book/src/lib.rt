@@ -3,6 +3,8 @@
 #![tactic(auto)]
 
 pub mod fault;
+pub mod letters;
 pub mod phase;
 pub mod sums;
 pub mod value;
+mod words;

@@ -6,19 +6,11 @@ ghost use Rattle.book.specs.Sums.{nothing, opens, lowers, executes, removes, tra
 use crate::value::Sums;
 
 impl Sums {
+    /// A new stock's sums: all zero.
     pub fn nothing() -> Sums
         ensures { result ≡ nothing }
     {
-        Sums {
-            added: 0,
-            executed: 0,
-            removed: 0,
-            open_shares: 0,
-            open_orders: 0,
-            live_trades: 0,
-            live_volume: 0,
-            turnover: 0,
-        }
+        Sums::default()
     }
 
     /// An order of `shares` opens.
@@ -34,7 +26,7 @@ impl Sums {
         }
     }
 
-    /// An order loses `shares`, and leaves if it is gone.
+    /// An order loses `shares`, and leaves if it is gone. It loses shares either way, so these are no `Option`.
     pub fn lowered(self, shares: u32, gone: bool) -> Sums
         ensures { result ≡ lowers self shares gone }
     {

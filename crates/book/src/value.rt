@@ -22,7 +22,7 @@ pub enum Side {
 }
 
 /// What the directory tells of a stock: its symbol filled with spaces, and the letters as they stand in it.
-#[derive(Clone, Copy)]
+#[derive(Clone, Copy, PartialEq, Eq)]
 pub struct Listing {
     pub symbol: [u8; 8],
     pub category: char,
@@ -31,7 +31,7 @@ pub struct Listing {
 }
 
 /// The sums of a stock's messages, its open orders and its live trades.
-#[derive(Clone, Copy)]
+#[derive(Clone, Copy, PartialEq, Eq, Default)]
 pub struct Sums {
     pub added: u64,
     pub executed: u64,
@@ -44,7 +44,7 @@ pub struct Sums {
 }
 
 /// A stock, under its locate. `stamp` is the time stamp of its last accepted message.
-#[derive(Clone, Copy)]
+#[derive(Clone, Copy, PartialEq, Eq)]
 pub struct Stock {
     pub listing: Listing,
     pub state: TradingState,
@@ -54,7 +54,7 @@ pub struct Stock {
 }
 
 /// An open order, under its reference.
-#[derive(Clone, Copy)]
+#[derive(Clone, Copy, PartialEq, Eq)]
 pub struct Order {
     pub locate: u16,
     pub side: Side,
@@ -71,7 +71,7 @@ pub enum Standing {
 }
 
 /// A trade, under its match number. `step` counts the corrections that led to it.
-#[derive(Clone, Copy)]
+#[derive(Clone, Copy, PartialEq, Eq)]
 pub struct Trade {
     pub locate: u16,
     pub price: u64,
@@ -81,14 +81,14 @@ pub struct Trade {
 }
 
 /// A price with all open shares at it.
-#[derive(Clone, Copy)]
+#[derive(Clone, Copy, PartialEq, Eq)]
 pub struct Level {
     pub price: u64,
     pub shares: u64,
 }
 
 /// A stock's best bid and offer, each absent where the side has no open order.
-#[derive(Clone, Copy)]
+#[derive(Clone, Copy, PartialEq, Eq)]
 pub struct Quote {
     pub bid: Option<Level>,
     pub offer: Option<Level>,

@@ -4,4 +4,5 @@
 
 pub mod day;
 pub mod keeping;
+mod ours;
 pub mod questions;

@@ -5,14 +5,13 @@
 ghost use Rattle.std.specs.Prelude.{◌≡◌};
 ghost use Rattle.book.specs.Feed.{Acts};
 ghost use Rattle.book.specs.Message.{heard};
-ghost use Rattle.book.specs.Orders.{order, reduce, reduces};
-ghost use Rattle.ledger.specs.Ledger.{book_in};
+ghost use Rattle.book.specs.Orders.{reduce, reduces};
 ghost use Rattle.wire.specs.Told.{told};
 
 use book::fault::BookFault;
 use book::value::{Order, Stock, Sums, Trade};
 use ledger::keeping::Ledger;
-use ledger::questions::{settle, unless};
+use ledger::questions::unless;
 use store::Store;
 use wire::message::{Cancel, Delete, Message};
 
@@ -40,35 +39,19 @@ pub fn reduced(sums: Sums, order: &Order, shares: u32) -> Sums
     sums.lowered(shares, order.shares <= shares)
 }
 
-/// The open order under a reference, if it is this stock's.
-pub fn order_of<S: Store<Stock>, O: Store<Order>, M: Store<Trade>>(
-    ledger: &Ledger<S, O, M>,
-    locate: u16,
-    reference: u64,
-) -> Result<Order, BookFault>
-    ensures { result ≡ order (book_in S.Holds O.Holds M.Holds ledger.now) locate reference }
-{
-    let order = ledger
-        .orders
-        .get(reference)
-        .ok_or(BookFault::UnknownReference)?;
-    unless(order.locate != locate, BookFault::OtherLocate)?;
-    Ok(order)
-}
-
 /// X: shares of an order are cancelled.
 pub fn cancel<S: Store<Stock>, O: Store<Order>, M: Store<Trade>>(
     ledger: &mut Ledger<S, O, M>,
     m: &Cancel,
 ) -> Result<(), BookFault>
-    ensures { Acts (book_in S.Holds O.Holds M.Holds ledger.old) (heard (told (Message.Cancel m.now))) result (book_in S.Holds O.Holds M.Holds ledger.new) }
+    ensures { Acts ledger.old (heard (told (Message.Cancel m.now))) result ledger.new }
 {
     let stock = ledger.known(m.head.locate)?;
-    let order = order_of(ledger, m.head.locate, m.reference)?;
+    let order = ledger.order(m.head.locate, m.reference)?;
     unless(order.shares < m.shares, BookFault::TooManyShares)?;
     reduce(&mut ledger.orders, m.reference, order, m.shares);
     let sums = reduced(stock.sums.removed(m.shares), &order, m.shares);
-    settle(&mut ledger.stocks, m.head.locate, stock, m.head.stamp, sums);
+    ledger.keep(m.head, Stock { sums, ..stock });
     Ok(())
 }
 
@@ -77,12 +60,12 @@ pub fn delete<S: Store<Stock>, O: Store<Order>, M: Store<Trade>>(
     ledger: &mut Ledger<S, O, M>,
     m: &Delete,
 ) -> Result<(), BookFault>
-    ensures { Acts (book_in S.Holds O.Holds M.Holds ledger.old) (heard (told (Message.Delete m.now))) result (book_in S.Holds O.Holds M.Holds ledger.new) }
+    ensures { Acts ledger.old (heard (told (Message.Delete m.now))) result ledger.new }
 {
     let stock = ledger.known(m.head.locate)?;
-    let order = order_of(ledger, m.head.locate, m.reference)?;
+    let order = ledger.order(m.head.locate, m.reference)?;
     let _ = ledger.orders.take_out(m.reference);
     let sums = stock.sums.removed(order.shares).lowered(order.shares, true);
-    settle(&mut ledger.stocks, m.head.locate, stock, m.head.stamp, sums);
+    ledger.keep(m.head, Stock { sums, ..stock });
     Ok(())
 }

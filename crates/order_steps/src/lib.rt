@@ -4,40 +4,31 @@
 
 ghost use Rattle.std.specs.Prelude.{◌≡◌};
 ghost use Rattle.book.specs.Feed.{Acts};
-ghost use Rattle.book.specs.Message.{heard, side_of};
-ghost use Rattle.ledger.specs.Ledger.{book_in};
+ghost use Rattle.book.specs.Message.{heard};
 ghost use Rattle.wire.specs.Told.{told};
 
 use book::fault::BookFault;
 use book::value::{Order, Side, Standing, Stock, Trade};
 use ledger::keeping::Ledger;
-use ledger::questions::{owned, placed, settle, unless};
+use ledger::questions::{owned, placed, unless};
 pub use order_cuts::{cancel, delete};
-use order_cuts::{order_of, reduce, reduced};
+use order_cuts::{reduce, reduced};
 use store::{Store, contains};
 use wire::message::{Add, Execute, Message, Replace};
-
-fn side_of(code: char) -> Side
-    ensures { result ≡ side_of code }
-{
-    match code {
-        'B' => Side::Buy,
-        _ => Side::Sell,
-    }
-}
 
 /// A: an order opens.
 pub fn add<'a, S: Store<Stock>, O: Store<Order>, M: Store<Trade>>(
     ledger: &mut Ledger<S, O, M>,
     m: &Add<'a>,
 ) -> Result<(), BookFault>
-    ensures { Acts (book_in S.Holds O.Holds M.Holds ledger.old) (heard (told (Message.Add m.now))) result (book_in S.Holds O.Holds M.Holds ledger.new) }
+    ensures { Acts ledger.old (heard (told (Message.Add m.now))) result ledger.new }
 {
     let stock = ledger.known(m.head.locate)?;
     owned(&stock, m.stock.bytes, 24)?;
     let order = Order {
         locate: m.head.locate,
-        side: side_of(m.side),
+        // Decoding lets no other letter through.
+        side: Side::try_from(m.side).unwrap_or(Side::Sell),
         price: m.price,
         shares: m.shares,
     };
@@ -47,7 +38,7 @@ pub fn add<'a, S: Store<Stock>, O: Store<Order>, M: Store<Trade>>(
         BookFault::OrdersFull,
     )?;
     let sums = stock.sums.opened(m.shares);
-    settle(&mut ledger.stocks, m.head.locate, stock, m.head.stamp, sums);
+    ledger.keep(m.head, Stock { sums, ..stock });
     Ok(())
 }
 
@@ -56,10 +47,10 @@ pub fn execute<S: Store<Stock>, O: Store<Order>, M: Store<Trade>>(
     ledger: &mut Ledger<S, O, M>,
     m: &Execute,
 ) -> Result<(), BookFault>
-    ensures { Acts (book_in S.Holds O.Holds M.Holds ledger.old) (heard (told (Message.Execute m.now))) result (book_in S.Holds O.Holds M.Holds ledger.new) }
+    ensures { Acts ledger.old (heard (told (Message.Execute m.now))) result ledger.new }
 {
     let stock = ledger.known(m.head.locate)?;
-    let order = order_of(ledger, m.head.locate, m.reference)?;
+    let order = ledger.order(m.head.locate, m.reference)?;
     unless(order.shares < m.shares, BookFault::TooManyShares)?;
     let trade = Trade {
         locate: m.head.locate,
@@ -76,7 +67,7 @@ pub fn execute<S: Store<Stock>, O: Store<Order>, M: Store<Trade>>(
     reduce(&mut ledger.orders, m.reference, order, m.shares);
     let sums = stock.sums.executed(order.price, m.shares);
     let sums = reduced(sums, &order, m.shares);
-    settle(&mut ledger.stocks, m.head.locate, stock, m.head.stamp, sums);
+    ledger.keep(m.head, Stock { sums, ..stock });
     Ok(())
 }
 
@@ -85,10 +76,10 @@ pub fn replace<S: Store<Stock>, O: Store<Order>, M: Store<Trade>>(
     ledger: &mut Ledger<S, O, M>,
     m: &Replace,
 ) -> Result<(), BookFault>
-    ensures { Acts (book_in S.Holds O.Holds M.Holds ledger.old) (heard (told (Message.Replace m.now))) result (book_in S.Holds O.Holds M.Holds ledger.new) }
+    ensures { Acts ledger.old (heard (told (Message.Replace m.now))) result ledger.new }
 {
     let stock = ledger.known(m.head.locate)?;
-    let order = order_of(ledger, m.head.locate, m.original)?;
+    let order = ledger.order(m.head.locate, m.original)?;
     unless(
         contains(&ledger.orders, m.new_reference),
         BookFault::ReferenceOpen(19),
@@ -105,6 +96,6 @@ pub fn replace<S: Store<Stock>, O: Store<Order>, M: Store<Trade>>(
         .removed(order.shares)
         .lowered(order.shares, true)
         .opened(m.shares);
-    settle(&mut ledger.stocks, m.head.locate, stock, m.head.stamp, sums);
+    ledger.keep(m.head, Stock { sums, ..stock });
     Ok(())
 }

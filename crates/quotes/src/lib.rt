@@ -10,7 +10,7 @@ ghost use Rattle.quotes.specs.Rule.{LevelsRule};
 
 use crate::levels::with_order;
 use book::value::{Order, Quote};
-use store::Store;
+use store::{Store, pairs};
 
 /// The best bid and offer of the stock under `locate`, each with all open shares at its price.
 pub fn best_levels<O: Store<Order>>(orders: &O, locate: u16) -> Quote
@@ -21,13 +21,8 @@ pub fn best_levels<O: Store<Order>>(orders: &O, locate: u16) -> Quote
         bid: None,
         offer: None,
     };
-    let mut key = 0;
-    while let Some((reference, order)) = orders.first_from(key) {
+    for (_, order) in pairs(orders) {
         quote = with_order(quote, locate, order);
-        let Some(next) = reference.checked_add(1) else {
-            return quote;
-        };
-        key = next;
     }
     quote
 }

@@ -5,52 +5,25 @@
 ghost use Rattle.std.specs.Prelude.{◌≡◌};
 ghost use Rattle.book.specs.Feed.{Acts};
 ghost use Rattle.book.specs.Message.{heard};
-ghost use Rattle.book.specs.Trades.{trade, is_live};
-ghost use Rattle.ledger.specs.Ledger.{book_in};
 ghost use Rattle.wire.specs.Told.{told};
 
 use book::fault::BookFault;
 use book::value::{Order, Standing, Stock, Trade};
 use ledger::keeping::Ledger;
-use ledger::questions::{placed, settle, unless};
+use ledger::questions::{placed, unless};
 use store::Store;
 use wire::message::{Break, Correct, Message};
-
-fn is_live(standing: Standing) -> bool
-    ensures { result ≡ is_live standing }
-{
-    match standing {
-        Standing::Live => true,
-        Standing::Broken | Standing::Corrected(_) => false,
-    }
-}
-
-/// The trade under a match number, if it is this stock's.
-fn trade_of<S: Store<Stock>, O: Store<Order>, M: Store<Trade>>(
-    ledger: &Ledger<S, O, M>,
-    locate: u16,
-    match_number: u64,
-) -> Result<Trade, BookFault>
-    ensures { result ≡ trade (book_in S.Holds O.Holds M.Holds ledger.now) locate match_number }
-{
-    let trade = ledger
-        .trades
-        .get(match_number)
-        .ok_or(BookFault::UnknownMatch)?;
-    unless(trade.locate != locate, BookFault::OtherLocate)?;
-    Ok(trade)
-}
 
 /// C: a trade is corrected, and a live one stands in for it.
 pub fn correct<S: Store<Stock>, O: Store<Order>, M: Store<Trade>>(
     ledger: &mut Ledger<S, O, M>,
     m: &Correct,
 ) -> Result<(), BookFault>
-    ensures { Acts (book_in S.Holds O.Holds M.Holds ledger.old) (heard (told (Message.Correct m.now))) result (book_in S.Holds O.Holds M.Holds ledger.new) }
+    ensures { Acts ledger.old (heard (told (Message.Correct m.now))) result ledger.new }
 {
     let stock = ledger.known(m.head.locate)?;
-    let old = trade_of(ledger, m.head.locate, m.match_number)?;
-    unless(!is_live(old.standing), BookFault::NotLive)?;
+    let old = ledger.trade(m.head.locate, m.match_number)?;
+    unless(old.standing != Standing::Live, BookFault::NotLive)?;
     let new = Trade {
         locate: m.head.locate,
         price: m.price,
@@ -72,7 +45,7 @@ pub fn correct<S: Store<Stock>, O: Store<Order>, M: Store<Trade>>(
         .sums
         .untraded(old.price, old.shares)
         .traded(m.price, m.shares);
-    settle(&mut ledger.stocks, m.head.locate, stock, m.head.stamp, sums);
+    ledger.keep(m.head, Stock { sums, ..stock });
     Ok(())
 }
 
@@ -81,17 +54,17 @@ pub fn break_trade<S: Store<Stock>, O: Store<Order>, M: Store<Trade>>(
     ledger: &mut Ledger<S, O, M>,
     m: &Break,
 ) -> Result<(), BookFault>
-    ensures { Acts (book_in S.Holds O.Holds M.Holds ledger.old) (heard (told (Message.Break m.now))) result (book_in S.Holds O.Holds M.Holds ledger.new) }
+    ensures { Acts ledger.old (heard (told (Message.Break m.now))) result ledger.new }
 {
     let stock = ledger.known(m.head.locate)?;
-    let trade = trade_of(ledger, m.head.locate, m.match_number)?;
-    unless(!is_live(trade.standing), BookFault::NotLive)?;
+    let trade = ledger.trade(m.head.locate, m.match_number)?;
+    unless(trade.standing != Standing::Live, BookFault::NotLive)?;
     let broken = Trade {
         standing: Standing::Broken,
         ..trade
     };
     let _ = ledger.trades.change(m.match_number, broken);
     let sums = stock.sums.untraded(trade.price, trade.shares);
-    settle(&mut ledger.stocks, m.head.locate, stock, m.head.stamp, sums);
+    ledger.keep(m.head, Stock { sums, ..stock });
     Ok(())
 }

@@ -1,26 +1,30 @@
-use Rattle.std.proofs.Common.{◌+◌, sym, ap, arith, rules}
-use Rattle.store.proofs.Scan.{onward_zero, onward_more, onward_shorter, onward_last}
+use Rattle.std.proofs.Common.{◌≡◌, ℕ, true, false, cond, ◌&&◌, not, eqb, Bool, ◌||◌, List, [], ◌∷◌, refl, ◌∙◌, rules}
+use Rattle.std.specs.List.{list_any}
+use Rattle.std.specs.Str.{bytes_eq}
+use Rattle.std.proofs.lemmas.Iterator.{cases_from_any}
+use Rattle.std.proofs.lemmas.Iterator.Consumers.{YieldsList-from_first}
+use borrow.Author.Tests.{tests}
+use Rattle.store.proofs.Walks.{any_tells}
+use Rattle.book.specs.declared.value.Stock.{Stock}
 use Rattle.book.specs.Stocks.{elsewhere}
 use Rattle.stock_steps.proofs.elsewhere.Goals as goal
 
-pub returns-in_default-checked_add : goal.returns-in_default-checked_add
-returns-in_default-checked_add g c =
-    let h = g.S.Holds.sound c.args.stocks.now in
-    let m = onward_more (g.S.Holds.held c.args.stocks.now).pairs c.loop-other.key (c.in-Some.other, c.in-Some.stock) h.rising (sym c.in-Some.ensures) in
-    let n = onward_last (g.S.Holds.held c.args.stocks.now).pairs (c.in-Some.other + 1) h.fit (omega (arith, c.in_default-checked_add.ensures)) in
-    search rules
+abbrev other : ℕ → List ℕ → ℕ × Stock → Bool
+other locate symbol p = not (eqb p.0 locate) && bytes_eq p.1.listing.symbol symbol
 
-pub loop-other-smaller : goal.loop-other-smaller
-loop-other-smaller g c =
-    let h = g.S.Holds.sound c.args.stocks.now in
-    let m = onward_shorter (g.S.Holds.held c.args.stocks.now).pairs c.loop-other.key (c.in-Some.other, c.in-Some.stock) h.rising (sym c.in-Some.ensures) in
-    rw c.in-Some-checked_add.ensures.1 m
+any_other : (ps : List (ℕ × Stock)) (locate : ℕ) (symbol : List ℕ) → list_any (other locate symbol) ps ≡ elsewhere ps locate symbol
+any_other [] locate symbol = refl
+any_other (p ∷ ps) locate symbol = rw (any_other ps locate symbol) (chosen (other locate symbol p) (elsewhere ps locate symbol))
+  where
+    chosen : (a b : Bool) → (a || b) ≡ cond a true b
+    chosen true b = refl
+    chosen false b = refl
 
-pub loop-other-preserved : goal.loop-other-preserved
-loop-other-preserved g c =
-    let h = g.S.Holds.sound c.args.stocks.now in
-    let m = onward_more (g.S.Holds.held c.args.stocks.now).pairs c.loop-other.key (c.in-Some.other, c.in-Some.stock) h.rising (sym c.in-Some.ensures) in
-    search rules
-
-pub loop-other-init : goal.loop-other-init
-loop-other-init g c = ap (λ ps. elsewhere ps c.args.locate c.args.symbol.now) (onward_zero (g.S.Holds.held c.args.stocks.now).pairs)
+pub returns : goal.returns
+returns g c =
+    let test = other c.args.locate c.args.symbol.now in
+    let stocks = (g.S.Holds.held c.args.stocks.now).pairs in
+    any_tells test stocks c.any.result
+    (cases_from_any _ _ c.any.result (λ p. test p ≡ true) (λ p. test p ≡ false) c.any.ensures.ran (YieldsList-from_first (λ p. p) (λ rest. rest) stocks c.pairs.ensures.all)
+    (λ p f called. search (rules, tests)) (λ p f called. search (rules, tests)))
+    ∙ any_other stocks c.args.locate c.args.symbol.now
