@@ -4,7 +4,7 @@ ghost use Rattle.std.specs.Prelude.{◌≡◌};
 ghost use Rattle.book.specs.Message.{heard};
 ghost use Rattle.book.specs.Sums.{worth};
 ghost use Rattle.wire.specs.Told.{told};
-ghost use Rattle.accounts.specs.Account.{still, nothing, adding, removing, run, executing, back, breaking, anew, correcting, about, posted, lowered};
+ghost use Rattle.accounts.specs.Account.{nothing, adding, removing, run, executing, back, breaking, anew, correcting, about, posted, lowered};
 
 use crate::account::{Account, Figures, Flow};
 use wire::message::Message;
@@ -21,29 +21,12 @@ impl Figures {
     pub fn lowered(self, shares: u32) -> Option<Figures>
         ensures { result ≡ lowered self shares }
     {
-        let left = self.shares.saturating_sub(shares);
-        if left == 0 {
-            return None;
-        }
-        Some(Figures {
-            shares: left,
-            ..self
-        })
+        let shares = self.shares.saturating_sub(shares);
+        (shares > 0).then_some(Figures { shares, ..self })
     }
 }
 
 impl Flow {
-    fn still() -> Flow
-        ensures { result ≡ still }
-    {
-        Flow {
-            executed: 0,
-            broken: 0,
-            undone: 0,
-            redone: 0,
-        }
-    }
-
     fn run(self, figure: u64) -> Flow
         ensures { result ≡ run self figure }
     {
@@ -78,12 +61,7 @@ impl Account {
     pub fn nothing() -> Account
         ensures { result ≡ nothing }
     {
-        Account {
-            added: 0,
-            removed: 0,
-            volume: Flow::still(),
-            turnover: Flow::still(),
-        }
+        Account::default()
     }
 
     fn adding(self, shares: u32) -> Account
@@ -152,13 +130,13 @@ impl Account {
                 },
             ),
             Message::Break(_) => self.breaking(named),
-            Message::Event(_) => self,
-            Message::Directory(_) => self,
-            Message::TradingAction(_) => self,
-            Message::Restriction(_) => self,
-            Message::Quote(_) => self,
-            Message::Sale(_) => self,
-            Message::SaleCancel(_) => self,
+            Message::Event(_)
+            | Message::Directory(_)
+            | Message::TradingAction(_)
+            | Message::Restriction(_)
+            | Message::Quote(_)
+            | Message::Sale(_)
+            | Message::SaleCancel(_) => self,
         }
     }
 }

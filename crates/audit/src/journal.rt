@@ -1,14 +1,9 @@
 //! The audit's own books: open orders, trades and accounts, from the accepted messages alone.
 
-ghost use Rattle.std.specs.Prelude.{◌≡◌};
-ghost use Rattle.book.specs.Message.{heard};
-ghost use Rattle.wire.specs.Told.{told};
-ghost use Rattle.accounts.specs.Account.{locate_in};
-
 use accounts::account::{Account, Figures};
 use std::alloc::{AllocError, Global};
 use std::collections::BTreeMap;
-use wire::message::Message;
+use wire::message::{Break, Cancel, Correct, Delete, Execute, Message, Replace};
 
 /// Open orders under their references, trades under their match numbers, accounts under their locates.
 #[derive(Drop)]
@@ -37,21 +32,20 @@ impl Journal {
     /// The order or the trade that a message names, as earlier messages made it.
     fn named<'a>(&self, message: &Message<'a>) -> Figures {
         let found = match message {
-            Message::Execute(m) => self.orders.get(&m.reference),
-            Message::Cancel(m) => self.orders.get(&m.reference),
-            Message::Delete(m) => self.orders.get(&m.reference),
-            Message::Replace(m) => self.orders.get(&m.original),
-            Message::Correct(m) => self.trades.get(&m.match_number),
-            Message::Break(m) => self.trades.get(&m.match_number),
+            Message::Execute(Execute { reference, .. })
+            | Message::Cancel(Cancel { reference, .. })
+            | Message::Delete(Delete { reference, .. })
+            | Message::Replace(
+                Replace {
+                    original: reference,
+                    ..
+                },
+            ) => self.orders.get(reference),
+            Message::Correct(Correct { match_number, .. })
+            | Message::Break(Break { match_number, .. }) => self.trades.get(match_number),
             _ => None,
         };
-        match found {
-            Some(figures) => *figures,
-            None => Figures {
-                price: 0,
-                shares: 0,
-            },
-        }
+        found.copied().unwrap_or_default()
     }
 
     /// Posts a message to its stock's account. An event is of no stock.
@@ -59,13 +53,8 @@ impl Journal {
         if let Message::Event(_) = message {
             return Ok(());
         }
-        let locate = locate_of(message);
-        let account = match self.accounts.get(&locate) {
-            Some(account) => *account,
-            None => Account::nothing(),
-        };
-        self.accounts
-            .insert(locate, account.posted(message, named))?;
+        let account = self.accounts.entry(message.head().locate)?.or_default();
+        *account = account.posted(message, named);
         Ok(())
     }
 
@@ -73,11 +62,23 @@ impl Journal {
     fn keep<'a>(&mut self, message: &Message<'a>, named: Figures) -> Result<(), AllocError> {
         match message {
             Message::Add(m) => {
-                self.open(m.reference, m.price, m.shares)?;
+                self.orders.insert(
+                    m.reference,
+                    Figures {
+                        price: m.price,
+                        shares: m.shares,
+                    },
+                )?;
             }
             Message::Execute(m) => {
                 self.lower(m.reference, named, m.shares)?;
-                self.trade(m.match_number, named.price, m.shares)?;
+                self.trades.insert(
+                    m.match_number,
+                    Figures {
+                        shares: m.shares,
+                        ..named
+                    },
+                )?;
             }
             Message::Cancel(m) => self.lower(m.reference, named, m.shares)?,
             Message::Delete(m) => {
@@ -85,21 +86,25 @@ impl Journal {
             }
             Message::Replace(m) => {
                 let _ = self.orders.remove(&m.original);
-                self.open(m.new_reference, m.price, m.shares)?;
+                self.orders.insert(
+                    m.new_reference,
+                    Figures {
+                        price: m.price,
+                        shares: m.shares,
+                    },
+                )?;
             }
-            Message::Correct(m) => self.trade(m.new_match_number, m.price, m.shares)?,
+            Message::Correct(m) => {
+                self.trades.insert(
+                    m.new_match_number,
+                    Figures {
+                        price: m.price,
+                        shares: m.shares,
+                    },
+                )?;
+            }
             _ => {}
         }
-        Ok(())
-    }
-
-    fn open(&mut self, reference: u64, price: u64, shares: u32) -> Result<(), AllocError> {
-        self.orders.insert(reference, Figures { price, shares })?;
-        Ok(())
-    }
-
-    fn trade(&mut self, match_number: u64, price: u64, shares: u32) -> Result<(), AllocError> {
-        self.trades.insert(match_number, Figures { price, shares })?;
         Ok(())
     }
 
@@ -114,27 +119,5 @@ impl Journal {
             }
         }
         Ok(())
-    }
-}
-
-/// The locate of a message.
-fn locate_of<'a>(message: &Message<'a>) -> u16
-    ensures { result ≡ locate_in (heard (told message.now)) }
-{
-    match message {
-        Message::Event(m) => m.head.locate,
-        Message::Directory(m) => m.head.locate,
-        Message::TradingAction(m) => m.head.locate,
-        Message::Restriction(m) => m.head.locate,
-        Message::Add(m) => m.head.locate,
-        Message::Execute(m) => m.head.locate,
-        Message::Cancel(m) => m.head.locate,
-        Message::Delete(m) => m.head.locate,
-        Message::Replace(m) => m.head.locate,
-        Message::Correct(m) => m.head.locate,
-        Message::Break(m) => m.head.locate,
-        Message::Quote(m) => m.head.locate,
-        Message::Sale(m) => m.head.locate,
-        Message::SaleCancel(m) => m.head.locate,
     }
 }

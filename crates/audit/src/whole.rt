@@ -1,18 +1,19 @@
 //! A whole audit, from a capture to its text.
 
-ghost use Rattle.std.specs.Prelude.{◌≡◌, IfOk, Ok};
-ghost use Rattle.capture.specs.Index.{judged};
+ghost use Rattle.std.specs.Prelude.{◌≡◌, IfOk};
 ghost use Rattle.audit.specs.Counts.{Counts};
 
 use crate::journal::Journal;
 use crate::lines::{put_fault, put_stock, put_unknown};
+use book::fault::PlayFault;
 use book::value::{Order, Stock, Trade};
-use capture::{judge, message};
+use capture::Capture;
 use decode::decode;
 use engine::making::Engine;
 use ordered::Ordered;
 use std::alloc::{AllocError, Global};
 use store::Store;
+use text::fault_line::FaultLine;
 use wire::message::Feed;
 
 /// Places in each store.
@@ -32,8 +33,8 @@ pub struct Audited {
 pub fn audit(heap: Global, capture: &[u8]) -> Result<Audited, AllocError>
     ensures { IfOk result (λ a. Counts capture.now a.messages a.accepted a.refused) }
 {
-    match judge(capture) {
-        Ok(count) => {
+    match Capture::judge(capture) {
+        Ok(capture) => {
             let mut stocks = vec![in heap; None; PLACES]?;
             let mut orders = vec![in heap; None; PLACES]?;
             let mut trades = vec![in heap; None; PLACES]?;
@@ -43,12 +44,11 @@ pub fn audit(heap: Global, capture: &[u8]) -> Result<Audited, AllocError>
                 Ordered::over(&mut orders),
                 Ordered::over(&mut trades),
                 capture,
-                count,
             )
         }
         Err(fault) => {
             let mut text = String::new(heap);
-            put_fault(heap, &mut text, fault.number(), fault.place(), fault.pair())?;
+            put_fault(&mut text, FaultLine::from(fault))?;
             Ok(Audited {
                 text,
                 messages: 0,
@@ -59,44 +59,40 @@ pub fn audit(heap: Global, capture: &[u8]) -> Result<Audited, AllocError>
     }
 }
 
-/// The audit of a judged capture of `count` messages over these stores.
+/// The audit of a judged capture over these stores.
 fn audit_over<S: Store<Stock> + Drop, O: Store<Order> + Drop, M: Store<Trade> + Drop>(
     heap: Global,
     stocks: S,
     orders: O,
     trades: M,
-    capture: &[u8],
-    count: usize,
+    capture: Capture<'_>,
 ) -> Result<Audited, AllocError>
-    requires { judged capture.now ≡ Ok count }
-    ensures { IfOk result (λ a. Counts capture.now a.messages a.accepted a.refused) }
+    ensures { IfOk result (λ a. Counts capture.entry.bytes.now a.messages a.accepted a.refused) }
 {
     let mut engine = Engine::new(stocks, orders, trades);
     let mut journal = Journal::new(heap);
-    let mut text = String::new(heap);
-    let mut accepted = 0;
-    let mut refused = 0;
-    for pair in 0..count {
-        let bytes = message(capture, pair).unwrap_or(b"");
+    let mut audited = Audited {
+        text: String::new(heap),
+        messages: capture.count(),
+        accepted: 0,
+        refused: 0,
+    };
+    for (pair, bytes) in capture.messages_from(0) {
         match engine.feed(bytes) {
             Ok(_) => {
                 note(&mut journal, bytes)?;
-                accepted += 1;
+                audited.accepted += 1;
             }
             Err(fault) => {
-                put_fault(heap, &mut text, fault.number(), fault.place() as u64, pair)?;
-                refused += 1;
+                let fault = PlayFault::Message(pair, fault);
+                put_fault(&mut audited.text, FaultLine::from(fault))?;
+                audited.refused += 1;
             }
         }
     }
-    let unbalanced = put_stocks(heap, &mut text, &engine, &journal)?;
-    put_end(heap, &mut text, count, accepted, refused, unbalanced)?;
-    Ok(Audited {
-        text,
-        messages: count,
-        accepted,
-        refused,
-    })
+    let unbalanced = put_stocks(&mut audited.text, &engine, &journal)?;
+    put_end(&mut audited, unbalanced)?;
+    Ok(audited)
 }
 
 /// Takes the bytes of an accepted message into the books.
@@ -109,7 +105,6 @@ fn note(journal: &mut Journal, bytes: &[u8]) -> Result<(), AllocError> {
 
 /// Writes each stock's laws in rising locate, and answers how many do not balance.
 fn put_stocks<S: Store<Stock>, O: Store<Order>, M: Store<Trade>>(
-    heap: Global,
     text: &mut String,
     engine: &Engine<S, O, M>,
     journal: &Journal,
@@ -117,9 +112,9 @@ fn put_stocks<S: Store<Stock>, O: Store<Order>, M: Store<Trade>>(
     let mut unbalanced = 0usize;
     for (locate, account) in journal.accounts.iter() {
         let more = match engine.stock(*locate) {
-            Ok(stock) => put_stock(heap, text, *locate, *account, &stock)?,
+            Ok(stock) => put_stock(text, *locate, *account, &stock)?,
             Err(_) => {
-                put_unknown(heap, text, *locate)?;
+                put_unknown(text, *locate)?;
                 1
             }
         };
@@ -129,19 +124,24 @@ fn put_stocks<S: Store<Stock>, O: Store<Order>, M: Store<Trade>>(
 }
 
 /// Writes the last line.
-fn put_end(
-    heap: Global,
-    text: &mut String,
-    messages: usize,
-    accepted: usize,
-    refused: usize,
-    unbalanced: usize,
-) -> Result<(), AllocError> {
-    let counts = format!(in heap; "{messages} messages, {accepted} accepted, {refused} refused; ")?;
-    text.push_str(&counts)?;
+fn put_end(audited: &mut Audited, unbalanced: usize) -> Result<(), AllocError>
+    ensures messages { audited.new.messages ≡ audited.old.messages }
+    ensures accepted { audited.new.accepted ≡ audited.old.accepted }
+    ensures refused { audited.new.refused ≡ audited.old.refused }
+{
+    let Audited {
+        text,
+        messages,
+        accepted,
+        refused,
+    } = audited;
+    write!(
+        text,
+        "{messages} messages, {accepted} accepted, {refused} refused; "
+    )?;
     if unbalanced == 0 {
-        return text.push_str("all balanced\n");
+        writeln!(text, "all balanced")
+    } else {
+        writeln!(text, "{unbalanced} NOT balanced")
     }
-    let line = format!(in heap; "{unbalanced} NOT balanced\n")?;
-    text.push_str(&line)
 }

@@ -2,7 +2,7 @@
 
 #![tactic(auto)]
 
-use small_day::{DayError, tell};
+use small_day::tell;
 use std::io;
 use std::io::{Read, Write};
 
@@ -17,9 +17,6 @@ fn main(rt: HostRuntime) -> io::Result<()> {
     let mut input = Vec::new(heap);
     rt.stdin().take(INPUT).read_to_end(&mut input)?;
     let mut out = vec![in heap; 0u8; OUTPUT]?;
-    match tell(heap, &input, &mut out) {
-        Ok(len) => rt.stdout().write_all(&out[..len]),
-        Err(DayError::NoMemory) => Err(io::Error::from(io::ErrorKind::OutOfMemory)),
-        Err(DayError::Refused(_)) => Err(io::Error::from(io::ErrorKind::Other)),
-    }
+    let len = tell(heap, &input, &mut out)?;
+    rt.stdout().write_all(&out[..len])
 }

@@ -2,7 +2,7 @@
 
 #![tactic(auto)]
 
-use small_day::{DayError, tell};
+use small_day::tell;
 use std::io::Write;
 use std::{fs, io};
 
@@ -38,9 +38,6 @@ fn main(rt: HostRuntime) -> io::Result<()> {
 
 fn one(rt: &HostRuntime, name: &str, out: &mut [u8]) -> io::Result<()> {
     let input = fs::read(rt, name)?;
-    match tell(rt.alloc(), &input, out) {
-        Ok(len) => rt.stdout().write_all(&out[..len]),
-        Err(DayError::NoMemory) => Err(io::Error::from(io::ErrorKind::OutOfMemory)),
-        Err(DayError::Refused(_)) => Err(io::Error::from(io::ErrorKind::Other)),
-    }
+    let len = tell(rt.alloc(), &input, out)?;
+    rt.stdout().write_all(&out[..len])
 }

@@ -6,23 +6,19 @@ use wire::message::Feed;
 
 /// The number and the place of a refusal.
 fn fault_of(feed: Feed, bytes: &[u8]) -> Option<(u8, usize)> {
-    match decode(feed, bytes) {
-        Ok(_) => None,
-        Err(fault) => Some((fault.number(), fault.place())),
-    }
+    let fault = decode(feed, bytes).err()?;
+    Some((fault.number(), fault.place()))
 }
 
-fn layer_of(bytes: &[u8]) -> Layer {
-    match decode(Feed::Depth, bytes) {
-        Ok(_) => Layer::Book,
-        Err(fault) => fault.layer(),
-    }
+/// The layer of a refusal by Depth.
+fn layer_of(bytes: &[u8]) -> Option<Layer> {
+    Some(decode(Feed::Depth, bytes).err()?.layer())
 }
 
 #[test]
 fn an_empty_message_has_no_byte(rt: HostRuntime) {
     assert!(rt; fault_of(Feed::Depth, b"") == Some((1, 0)));
-    assert!(rt; layer_of(b"") == Layer::Bytes);
+    assert!(rt; layer_of(b"") == Some(Layer::Bytes));
 }
 
 #[test]
@@ -33,7 +29,7 @@ fn the_product_of_price_and_shares_is_limited(rt: HostRuntime) {
         b"A\x00\x01\0\0\0\0\0\0\0\x05\0\0\0\0\0\0\0\x07B\x00\x00\xC3\x51ABCD    \0\0\0\0\x77\x35\x94\x00";
     assert!(rt; fault_of(Feed::Depth, most) == None);
     assert!(rt; fault_of(Feed::Depth, over) == Some((8, 32)));
-    assert!(rt; layer_of(over) == Layer::Fields);
+    assert!(rt; layer_of(over) == Some(Layer::Fields));
 }
 
 #[test]

@@ -1,6 +1,7 @@
 //! The quote over both tables.
 
-use book::value::{Level, Order, Stock, Trade};
+use book::fault::BookFault;
+use book::value::{Level, Order, Quote, Stock, Trade};
 use engine::making::Engine;
 use loose::Loose;
 use ordered::Ordered;
@@ -45,9 +46,9 @@ fn add(locate: u8, reference: u64, side: u8, shares: u8, price: u8) -> [u8; 40] 
     ]
 }
 
-fn price_and_shares(level: Option<Level>) -> PriceAndShares {
-    let level = level?;
-    Some((level.price, level.shares))
+/// A price with all open shares at it.
+fn level((price, shares): (u64, u64)) -> Level {
+    Level { price, shares }
 }
 
 /// The quote of a known stock is this bid and this offer.
@@ -57,10 +58,11 @@ fn quotes<S: Store<Stock>, O: Store<Order>, M: Store<Trade>>(
     bid: PriceAndShares,
     offer: PriceAndShares,
 ) -> bool {
-    match engine.quote(locate) {
-        Ok(quote) => price_and_shares(quote.bid) == bid && price_and_shares(quote.offer) == offer,
-        Err(_) => false,
-    }
+    let quote = Quote {
+        bid: bid.map(level),
+        offer: offer.map(level),
+    };
+    engine.quote(locate) == Ok(quote)
 }
 
 /// An unknown locate is refused; a stock without orders has neither side.
@@ -72,10 +74,9 @@ fn empty<S: Store<Stock>, O: Store<Order>, M: Store<Trade>>(
     assert!(rt; engine.feed(STOCK_A).is_ok());
     assert!(rt; engine.feed(STOCK_B).is_ok());
     assert!(rt; quotes(engine, 1, None, None));
-    match engine.quote(3) {
-        Ok(_) => assert!(rt; false),
-        Err(fault) => assert!(rt; fault.number() == 12 && fault.place() == 0),
-    }
+    let refused = engine.quote(3).err();
+    assert!(rt; refused.map(BookFault::number) == Some(12));
+    assert!(rt; refused.map(BookFault::place) == Some(0));
 }
 
 /// Equal prices add up, the better one wins, and the other stock's orders are its own.
@@ -126,6 +127,7 @@ fn a_day<S: Store<Stock> + Drop, O: Store<Order> + Drop, M: Store<Trade> + Drop>
     moved(rt, &mut engine);
 }
 
+// A test for each table: the slots are lent for as long as the table lives, so a test over both would lend them through a closure.
 #[test]
 fn quotes_over_ordered_tables(rt: HostRuntime) {
     let mut stocks = [NO_STOCK; 2];

@@ -4,26 +4,12 @@ use loose::Loose;
 use ordered::Ordered;
 use std::process::Abort;
 use std::test::Fail;
-use store::{PutRefusal, Store};
-
-fn is_full(put: Result<(), PutRefusal>) -> bool {
-    match put {
-        Err(PutRefusal::Full) => true,
-        _ => false,
-    }
-}
-
-fn is_present(put: Result<(), PutRefusal>) -> bool {
-    match put {
-        Err(PutRefusal::Present) => true,
-        _ => false,
-    }
-}
+use store::{PutRefusal, Store, pairs};
 
 /// A table of no place holds nothing.
 fn no_place<S: Store<u8>>(rt: &impl Abort, table: &mut S) {
     assert!(rt; table.capacity() == 0);
-    assert!(rt; is_full(table.put(1, 1u8)));
+    assert!(rt; table.put(1, 1u8) == Err(PutRefusal::Full));
     assert!(rt; table.get(1) == None);
     assert!(rt; table.first_from(0) == None);
     assert!(rt; table.take_out(1).is_err());
@@ -46,11 +32,13 @@ fn three_places<S: Store<u8>>(rt: &impl Abort, table: &mut S) {
     assert!(rt; table.put(u64::MAX, 30u8).is_ok());
     assert!(rt; table.put(0, 10u8).is_ok());
     assert!(rt; table.put(5, 20u8).is_ok());
-    assert!(rt; is_present(table.put(5, 21u8)));
-    assert!(rt; is_full(table.put(6, 21u8)));
+    assert!(rt; table.put(5, 21u8) == Err(PutRefusal::Present));
+    assert!(rt; table.put(6, 21u8) == Err(PutRefusal::Full));
     assert!(rt; table.first_from(0) == Some((0, 10)));
     assert!(rt; table.first_from(1) == Some((5, 20)));
     assert!(rt; table.first_from(6) == Some((u64::MAX, 30)));
+    assert!(rt; pairs(table).next() == Some((0, 10)));
+    assert!(rt; pairs(table).last() == Some((u64::MAX, 30)));
 }
 
 /// The middle, the last and the first pair of a full table of three leave.
@@ -67,6 +55,7 @@ fn leaving<S: Store<u8>>(rt: &impl Abort, table: &mut S) {
     assert!(rt; table.count() == 0 && table.capacity() == 3);
 }
 
+// A test for each table: the slots are lent for as long as the table lives, so a test over both would lend them through a closure.
 #[test]
 fn the_ordered_table(rt: HostRuntime) {
     let mut none = [None; 0];

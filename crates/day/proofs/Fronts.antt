@@ -2,14 +2,12 @@
 use Rattle.std.proofs.Common.{◌≡◌, ℕ, ◌+◌, ◌<◌, ◌≤◌, List, ◌++◌, length, drop, Ok, Err, Result, refl, ap, ◌∙◌, arith, length-append}
 use Rattle.std.proofs.lemmas.Bool.{le-leb, lt-leb}
 use Rattle.std.proofs.lemmas.Bool.Decides.{nat_tests}
-use Rattle.text.specs.FaultLine.{fault_line}
-use Rattle.text.specs.Placed.{written}
+use Rattle.text.specs.declared.TooShort.{TooShort}
+use Rattle.text.specs.Placed.{Placed, written}
 use Rattle.text.proofs.Writes.{Stands, stands_more}
 use Rattle.book.specs.declared.fault.BookFault.{BookFault}
 use Rattle.book.specs.declared.fault.BookFault.TheVariants.{ShortBuffer}
-use Rattle.book.specs.declared.fault.PlayFault.{PlayFault}
-use Rattle.book.specs.Fault.{play_told}
-use Rattle.day.specs.Texts.{fault_text, texted, text_after}
+use Rattle.day.specs.Texts.{texted, text_after}
 
 -- what a call that writes a text to the front of a buffer ensures
 abbrev pub Fronted : List ℕ → List ℕ → Result ℕ BookFault → List ℕ → Type 0
@@ -27,12 +25,10 @@ fronted text buf after n l e w =
 pub fronted_at : (text buf after : List ℕ) (n : ℕ) → 0 + length text ≤ length buf → n ≡ 0 + length text → after ≡ written buf 0 text → Fronted text buf (Ok n) after
 fronted_at text buf after n l e w = fronted text buf after n (omega arith) (omega arith) w
 
-pub fault_as : (f : PlayFault) (n p k : ℕ) → n ≡ (play_told f).0 → p ≡ (play_told f).2 → k ≡ (play_told f).3 → fault_line n p k ≡ fault_text f
-fault_as f n p k a b c =
-    ap (λ (i : ℕ). fault_line i p k) a ∙ ap (λ (i : ℕ). fault_line (play_told f).0 i k) b ∙ ap (λ (i : ℕ). fault_line (play_told f).0 (play_told f).2 i) c
-
-pub fronted_as : (text other buf after : List ℕ) (r : Result ℕ BookFault) → text ≡ other → Fronted text buf r after → Fronted other buf r after
-fronted_as text other buf after r e f = (f.0 ∙ ap (λ (t : List ℕ). texted t buf) e, f.1 ∙ ap (λ (t : List ℕ). text_after t buf) e)
+-- whatever placing it at 0 answered
+pub placed_after : (text buf after : List ℕ) (r : Result ℕ TooShort) → Placed buf 0 text after r → after ≡ text_after text buf
+placed_after text buf after (Ok n) p = (fronted_at text buf after n p.0 p.1 p.2).1
+placed_after text buf after (Err e) p = p.1 ∙ (short text buf (omega (arith, p.0))).1
 
 module _ (front rest buf : List ℕ) where
   pub short_of_both : length buf < length front + length rest → Fronted (front ++ rest) buf (Err (ShortBuffer (length buf))) buf

@@ -1,12 +1,12 @@
 -- The report stock by stock: what is left of it, how long it is, and where it stands in a buffer.
-use Rattle.std.proofs.Common.{◌≡◌, ℕ, ◌+◌, ◌-◌, ◌^◌, ◌<◌, ◌≤◌, true, false, leb, List, [], ◌∷◌, ◌++◌, length, take, drop, Some, None, sym, refl, ap, ◌∙◌, append_assoc, arith, length-append, length-drop, length-take}
+use Rattle.std.proofs.Common.{◌≡◌, ℕ, ◌+◌, ◌-◌, ◌<◌, ◌≤◌, Bool, false, leb, List, [], ◌∷◌, ◌++◌, length, take, drop, Ok, Err, Result, sym, refl, ap, ◌∙◌, append_assoc, arith, length-append, length-drop, length-take}
 use Rattle.std.proofs.lemmas.List.{take_at, drop_at, take-append-drop}
-use Rattle.std.proofs.lemmas.Bool.{lt-leb, le-leb}
+use Rattle.std.proofs.lemmas.Bool.{lt-leb}
 use Rattle.std.proofs.lemmas.Bool.Decides.{nat_tests}
-use Rattle.store.specs.Held.{Held, Sound, onward, from}
-use Rattle.store.proofs.Scan.{onward_zero, onward_more, onward_none, onward_last, onward_shorter}
 use Rattle.text.specs.Line.{line, lines}
-use Rattle.text.specs.Placed.{written}
+use Rattle.std.specs.Result.{IsOk}
+use Rattle.text.specs.declared.TooShort.{TooShort}
+use Rattle.text.specs.Placed.{Placed, written}
 use Rattle.text.proofs.Writes.{Stands, stands_more}
 use Rattle.book.specs.declared.value.Stock.{Stock}
 use Rattle.book.specs.Report.{line_of, lines_of}
@@ -39,76 +39,58 @@ whole r a h e =
     append_nil_of [] = refl
     append_nil_of (x ∷ xs) = ap (λ (t : List ℕ). x ∷ t) (append_nil_of xs)
 
-module _ (h : Held Stock) (sound : Sound h) (k : ℕ) (p : ℕ × Stock) (e : Some p ≡ from h.pairs k) where
-  text_more : text_of (onward h.pairs k) ≡ line_at p ++ text_of (onward h.pairs (p.0 + 1))
-  text_more = ap text_of (onward_more h.pairs k p sound.rising (sym e))
+-- l is the next line, and r what is left behind it
+module _ (l r : List ℕ) (left needed : ℕ) (room : Bool) (is : needed ≡ length l) (inv : leb (length (l ++ r)) left ≡ room) where
+  pub too_long : left < needed → false ≡ room
+  too_long h = sym (lt-leb (length (l ++ r)) left (omega (arith, length-append l r))) ∙ inv
 
-  length_more : length (text_of (onward h.pairs k)) ≡ length (line_at p) + length (text_of (onward h.pairs (p.0 + 1)))
-  length_more = ap length text_more ∙ length-append (line_at p) (text_of (onward h.pairs (p.0 + 1)))
+  pub fits_more : needed ≤ left → leb (length r) (left - needed) ≡ room
+  fits_more h =
+      less_room (length r) needed left h
+      ∙ ap (λ (i : ℕ). leb (i + length r) left) is
+      ∙ ap (λ (i : ℕ). leb i left) (sym (length-append l r)) ∙ inv
 
-  pub fewer : (next : ℕ) → next ≡ p.0 + 1 → length (onward h.pairs next) < length (onward h.pairs k)
-  fewer next is = rw is (onward_shorter h.pairs k p sound.rising (sym e))
+-- the front of the report stands in the buffer from s to at
+module _ (report l r buf buf' : List ℕ) (s at end : ℕ) (low : s ≤ at) (high : at ≤ s + length report)
+    (was : buf' ≡ written buf s (take (at - s) report)) (rest : drop (at - s) report ≡ l ++ r) where
+  next_cut : (take (at - s + length l) report ≡ take (at - s) report ++ l) × (drop (at - s + length l) report ≡ r)
+  next_cut = cut report l r (at - s) (omega arith) rest
 
-  none_after : 2 ^ 64 ≤ p.0 + 1 → text_of (onward h.pairs (p.0 + 1)) ≡ []
-  none_after top = ap text_of (onward_last h.pairs (p.0 + 1) sound.fit top)
+  left_over : length report - (at - s) ≡ length l + length r
+  left_over = sym (length-drop (at - s) report) ∙ ap length rest ∙ length-append l r
 
-  module _ (left needed room : ℕ) (is : needed ≡ length (line_at p)) (inv : leb (length (text_of (onward h.pairs k))) left ≡ leb (length (text_of h.pairs)) room) where
-    pub too_long : left < needed → false ≡ leb (length (text_of h.pairs)) room
-    too_long l = sym (lt-leb (length (text_of (onward h.pairs k))) left (omega (arith, length_more))) ∙ inv
+  pub has_room : at + length l ≤ s + length report
+  has_room = omega (arith, left_over)
 
-    pub fits_more : needed ≤ left → (next : ℕ) → next ≡ p.0 + 1 → leb (length (text_of (onward h.pairs next))) (left - needed) ≡ leb (length (text_of h.pairs)) room
-    fits_more l next n =
-        ap (λ (i : ℕ). leb (length (text_of (onward h.pairs i))) (left - needed)) n
-        ∙ less_room (length (text_of (onward h.pairs (p.0 + 1)))) needed left l
-        ∙ ap (λ (i : ℕ). leb (i + length (text_of (onward h.pairs (p.0 + 1)))) left) is
-        ∙ ap (λ (i : ℕ). leb i left) (sym length_more) ∙ inv
+  module _ (room : s + length report ≤ length buf) (ends : end ≡ at + length l) (after : List ℕ) (put : after ≡ written buf' at l) where
+    so : Stands buf s (take (at - s) report ++ l) after end
+    so =
+        let n : length (take (at - s) report) ≡ at - s = simp length-take (omega arith) in
+        stands_more l after end (record { bytes = was; ends = omega arith }) (omega (arith, has_room)) put ends
 
-    pub fits_last : needed ≤ left → 2 ^ 64 ≤ p.0 + 1 → true ≡ leb (length (text_of h.pairs)) room
-    fits_last l top =
-        let none = ap length (none_after top) in
-        sym (le-leb (length (text_of (onward h.pairs k))) left (omega (arith, length_more))) ∙ inv
+    pub stands_on : after ≡ written buf s (take (end - s) report)
+    stands_on =
+        let n : at - s + length l ≡ end - s = omega arith in
+        so.bytes ∙ ap (written buf s) (sym next_cut.0 ∙ ap (λ (i : ℕ). take i report) n)
 
-  -- the front of the report stands in the buffer from s to at
-  module _ (buf buf' : List ℕ) (s at end : ℕ) (low : s ≤ at) (high : at ≤ s + length (text_of h.pairs))
-      (was : buf' ≡ written buf s (take (at - s) (text_of h.pairs))) (rest : drop (at - s) (text_of h.pairs) ≡ text_of (onward h.pairs k)) where
-    next_cut : (take (at - s + length (line_at p)) (text_of h.pairs) ≡ take (at - s) (text_of h.pairs) ++ line_at p)
-        × (drop (at - s + length (line_at p)) (text_of h.pairs) ≡ text_of (onward h.pairs (p.0 + 1)))
-    next_cut = cut (text_of h.pairs) (line_at p) (text_of (onward h.pairs (p.0 + 1))) (at - s) (omega arith) (rest ∙ text_more)
-
-    left_over : length (text_of h.pairs) - (at - s) ≡ length (line_at p) + length (text_of (onward h.pairs (p.0 + 1)))
-    left_over = sym (length-drop (at - s) (text_of h.pairs)) ∙ ap length rest ∙ length_more
-
-    pub has_room : at + length (line_at p) ≤ s + length (text_of h.pairs)
-    has_room = omega (arith, left_over)
-
-    module _ (room : s + length (text_of h.pairs) ≤ length buf) (ends : end ≡ at + length (line_at p)) (after : List ℕ) (put : after ≡ written buf' at (line_at p)) where
-      so : Stands buf s (take (at - s) (text_of h.pairs) ++ line_at p) after end
-      so =
-          let n : length (take (at - s) (text_of h.pairs)) ≡ at - s = simp length-take (omega arith) in
-          stands_more (line_at p) after end (record { bytes = was; ends = omega arith }) (omega (arith, has_room)) put ends
-
-      pub stands_on : after ≡ written buf s (take (end - s) (text_of h.pairs))
-      stands_on =
-          let n : at - s + length (line_at p) ≡ end - s = omega arith in
-          so.bytes ∙ ap (written buf s) (sym next_cut.0 ∙ ap (λ (i : ℕ). take i (text_of h.pairs)) n)
-
-      pub rest_on : (next : ℕ) → next ≡ p.0 + 1 → drop (end - s) (text_of h.pairs) ≡ text_of (onward h.pairs next)
-      rest_on next is =
-          let n : end - s ≡ at - s + length (line_at p) = omega arith in
-          ap (λ (i : ℕ). drop i (text_of h.pairs)) n ∙ next_cut.1 ∙ ap (λ (i : ℕ). text_of (onward h.pairs i)) (sym is)
-
-      pub rest_last : 2 ^ 64 ≤ p.0 + 1 → drop (end - s) (text_of h.pairs) ≡ []
-      rest_last top = rest_on (p.0 + 1) refl ∙ none_after top
+    pub rest_on : drop (end - s) report ≡ r
+    rest_on =
+        let n : end - s ≡ at - s + length l = omega arith in
+        ap (λ (i : ℕ). drop i report) n ∙ next_cut.1
 
 -- the whole report stands in the buffer
-pub stands_whole : (h : Held Stock) (buf after : List ℕ) (s at : ℕ) → s ≤ at → at ≤ s + length (text_of h.pairs) → after ≡ written buf s (take (at - s) (text_of h.pairs)) →
-    drop (at - s) (text_of h.pairs) ≡ [] → (at ≡ s + length (text_of h.pairs)) × (after ≡ written buf s (text_of h.pairs))
-stands_whole h buf after s at low high was none =
-    let w = whole (text_of h.pairs) (at - s) (omega arith) none in
+pub stands_whole : (report buf after : List ℕ) (s at : ℕ) → s ≤ at → at ≤ s + length report → after ≡ written buf s (take (at - s) report) →
+    drop (at - s) report ≡ [] → (at ≡ s + length report) × (after ≡ written buf s report)
+stands_whole report buf after s at low high was none =
+    let w = whole report (at - s) (omega arith) none in
     (omega arith, was ∙ ap (written buf s) w.1)
 
-pub none_left : (h : Held Stock) (k : ℕ) → None ≡ from h.pairs k → text_of (onward h.pairs k) ≡ []
-none_left h k e = ap text_of (onward_none h.pairs k (sym e))
+-- a text for which there is room is put
+pub is_placed : (buf : List ℕ) (at : ℕ) (text after : List ℕ) (r : Result ℕ TooShort) → Placed buf at text after r → at + length text ≤ length buf → IsOk r
+is_placed buf at text after (Ok end) p h = refl
+is_placed buf at text after (Err e) p h = absurd (omega (arith, p.0))
 
-pub all_left : (h : Held Stock) → text_of (onward h.pairs 0) ≡ text_of h.pairs
-all_left h = ap text_of (onward_zero h.pairs)
+pub placed_as : (buf : List ℕ) (at : ℕ) (text after : List ℕ) (r : Result ℕ TooShort) (end : ℕ) → Placed buf at text after r → r ≡ Ok end →
+    (end ≡ at + length text) × (after ≡ written buf at text)
+placed_as buf at text after (Ok k) end p e = let same : end ≡ k = cc in (same ∙ p.1, p.2)
+placed_as buf at text after (Err f) end p e = absurd (let z : ◌≡◌ {A = ℕ} 0 1 = cc in omega arith)

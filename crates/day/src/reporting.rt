@@ -2,7 +2,6 @@
 
 ghost use Rattle.std.specs.Prelude.{◌≡◌, ◌+◌, ◌≤◌, length, nat_le};
 ghost use Rattle.book.specs.Report.{line_of, report};
-ghost use Rattle.engine.specs.Engine.{engine_book};
 ghost use Rattle.text.specs.Placed.{written};
 
 use book::value::{Order, Stock, Trade};
@@ -27,20 +26,15 @@ pub(crate) fn fits<S: Store<Stock>, O: Store<Order>, M: Store<Trade>>(
     engine: &Engine<S, O, M>,
     room: usize,
 ) -> bool
-    ensures { result ≡ nat_le (length (report (engine_book S.Holds O.Holds M.Holds engine.now))) room }
+    ensures { result ≡ nat_le (length (report engine.now)) room }
 {
     let mut left = room;
-    let mut key = 0;
-    while let Some((locate, stock)) = engine.stock_from(key) {
+    for (locate, stock) in engine.stocks() {
         let needed = line_of(locate, &stock).width();
         if left < needed {
             return false;
         }
         left -= needed;
-        let Some(next) = locate.checked_add(1) else {
-            return true;
-        };
-        key = next;
     }
     true
 }
@@ -51,21 +45,13 @@ pub(crate) fn put_lines<S: Store<Stock>, O: Store<Order>, M: Store<Trade>>(
     buf: &mut [u8],
     start: usize,
 ) -> usize
-    requires { start + length (report (engine_book S.Holds O.Holds M.Holds engine.now)) ≤ length buf.old }
-    ensures end { result ≡ start + length (report (engine_book S.Holds O.Holds M.Holds engine.now)) }
-    ensures after { buf.new ≡ written buf.old start (report (engine_book S.Holds O.Holds M.Holds engine.now)) }
+    requires { start + length (report engine.now) ≤ length buf.old }
+    ensures end { result ≡ start + length (report engine.now) }
+    ensures after { buf.new ≡ written buf.old start (report engine.now) }
 {
     let mut at = start;
-    let mut key = 0;
-    while let Some((locate, stock)) = engine.stock_from(key) {
-        let Ok(end) = line_of(locate, &stock).put(buf, at) else {
-            unreachable()
-        };
-        at = end;
-        let Some(next) = locate.checked_add(1) else {
-            return at;
-        };
-        key = next;
+    for (locate, stock) in engine.stocks() {
+        at = line_of(locate, &stock).put(buf, at).unwrap();
     }
     at
 }

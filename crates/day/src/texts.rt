@@ -3,7 +3,6 @@
 ghost use Rattle.std.specs.Prelude.{◌≡◌, ◌≤◌, length, None};
 ghost use Rattle.book.specs.Report.{report};
 ghost use Rattle.day.specs.Texts.{fault_text, day_text, front_text, texted, text_after};
-ghost use Rattle.engine.specs.Engine.{engine_book};
 ghost use Rattle.text.specs.Placed.{written};
 
 use crate::reporting::{fits, put_lines};
@@ -11,17 +10,16 @@ use book::fault::{BookFault, PlayFault};
 use book::value::{Order, Stock, Trade};
 use engine::making::Engine;
 use store::Store;
-use text::fault_line::{fault_line_width, put_fault_line};
+use text::fault_line::FaultLine;
 
 /// Writes a fault's line to the front of the buffer, and answers how many bytes.
 pub fn put_fault(fault: PlayFault, buf: &mut [u8]) -> Result<usize, BookFault>
     ensures answer { result ≡ texted (fault_text fault) buf.old }
     ensures after { buf.new ≡ text_after (fault_text fault) buf.old }
 {
-    match put_fault_line(buf, fault.number(), fault.place(), fault.pair() as u64) {
-        Ok(len) => Ok(len),
-        Err(_) => Err(BookFault::ShortBuffer(buf.len())),
-    }
+    let line = FaultLine::from(fault);
+    let room = buf.len();
+    line.put(buf).map_err(|_| BookFault::ShortBuffer(room))
 }
 
 /// Writes the report to the front of the buffer, and answers how many bytes.
@@ -29,8 +27,8 @@ pub fn put_report<S: Store<Stock>, O: Store<Order>, M: Store<Trade>>(
     engine: &Engine<S, O, M>,
     buf: &mut [u8],
 ) -> Result<usize, BookFault>
-    ensures answer { result ≡ texted (report (engine_book S.Holds O.Holds M.Holds engine.now)) buf.old }
-    ensures after { buf.new ≡ text_after (report (engine_book S.Holds O.Holds M.Holds engine.now)) buf.old }
+    ensures answer { result ≡ texted (report engine.now) buf.old }
+    ensures after { buf.new ≡ text_after (report engine.now) buf.old }
 {
     put_day(engine, None, buf)
 }
@@ -41,8 +39,8 @@ pub fn put_day<S: Store<Stock>, O: Store<Order>, M: Store<Trade>>(
     fault: Option<PlayFault>,
     buf: &mut [u8],
 ) -> Result<usize, BookFault>
-    ensures answer { result ≡ texted (day_text fault (engine_book S.Holds O.Holds M.Holds engine.now)) buf.old }
-    ensures after { buf.new ≡ text_after (day_text fault (engine_book S.Holds O.Holds M.Holds engine.now)) buf.old }
+    ensures answer { result ≡ texted (day_text fault engine.now) buf.old }
+    ensures after { buf.new ≡ text_after (day_text fault engine.now) buf.old }
 {
     let width = front_width(fault);
     let len = buf.len();
@@ -57,10 +55,7 @@ pub fn put_day<S: Store<Stock>, O: Store<Order>, M: Store<Trade>>(
 fn front_width(fault: Option<PlayFault>) -> usize
     ensures { result ≡ length (front_text fault) }
 {
-    match fault {
-        Some(fault) => fault_line_width(fault.number(), fault.place(), fault.pair() as u64),
-        None => 0,
-    }
+    fault.map_or(0, |fault| FaultLine::from(fault).width())
 }
 
 /// Writes what stands before the report, for which there is room.
@@ -69,6 +64,6 @@ fn put_front(fault: Option<PlayFault>, buf: &mut [u8])
     ensures { buf.new ≡ written buf.old 0 (front_text fault) }
 {
     if let Some(fault) = fault {
-        let _ = put_fault_line(buf, fault.number(), fault.place(), fault.pair() as u64);
+        FaultLine::from(fault).put(buf).unwrap();
     }
 }

@@ -2,8 +2,8 @@
 
 #![tactic(auto)]
 
-use book::value::{Order, ShortSale, Standing, Stock, Trade, TradingState};
-use capture::{judge, message};
+use book::value::{Order, Standing, Stock, Sums, Trade};
+use capture::Capture;
 use engine::making::Engine;
 use ordered::Ordered;
 use std::{fs, io};
@@ -31,27 +31,26 @@ fn feed_all<S: Store<Stock> + Drop, O: Store<Order> + Drop, M: Store<Trade> + Dr
     capture: &[u8],
 ) -> io::Result<()> {
     let mut engine = Engine::new(stocks, orders, trades);
-    let count = judge(capture).unwrap_or(0);
-    for pair in 0..count {
-        match engine.feed(message(capture, pair).unwrap_or(b"")) {
-            Ok(accepted) => println!(rt; "{pair} count {accepted}")?,
-            Err(fault) => {
-                let number = fault.number();
-                let place = fault.place();
-                println!(rt; "{pair} fault {number} place {place}")?;
+    if let Ok(capture) = Capture::judge(capture) {
+        for (pair, bytes) in capture.messages_from(0) {
+            match engine.feed(bytes) {
+                Ok(accepted) => println!(rt; "{pair} count {accepted}")?,
+                Err(fault) => println!(rt;
+                    "{pair} fault {} place {}",
+                    fault.number(),
+                    fault.place()
+                )?,
             }
-        }
-        if let Ok(stock) = engine.stock(1) {
-            put_sums(rt, &stock)?;
+            if let Ok(stock) = engine.stock(1) {
+                put_sums(rt, &stock.sums)?;
+            }
         }
     }
     if let Ok(stock) = engine.stock(1) {
         put_stock(rt, &stock)?;
     }
     if let Err(fault) = engine.stock(2) {
-        let number = fault.number();
-        let place = fault.place();
-        println!(rt; "stock 2 fault {number} place {place}")?;
+        println!(rt; "stock 2 fault {} place {}", fault.number(), fault.place())?;
     }
     for reference in [7, 8, 20, 21] {
         put_order(rt, reference, engine.order(reference))?;
@@ -63,64 +62,50 @@ fn feed_all<S: Store<Stock> + Drop, O: Store<Order> + Drop, M: Store<Trade> + Dr
 }
 
 /// The sums of a stock.
-fn put_sums(rt: &HostRuntime, stock: &Stock) -> io::Result<()> {
-    let s = stock.sums;
-    let added = s.added;
-    let executed = s.executed;
-    let removed = s.removed;
-    let shares = s.open_shares;
-    let orders = s.open_orders;
-    let trades = s.live_trades;
-    let volume = s.live_volume;
-    let turnover = s.turnover;
+fn put_sums(rt: &HostRuntime, sums: &Sums) -> io::Result<()> {
+    let Sums {
+        added,
+        executed,
+        removed,
+        open_shares,
+        open_orders,
+        live_trades,
+        live_volume,
+        turnover,
+    } = *sums;
     println!(rt;
-        "  added {added} executed {executed} removed {removed} open {shares} in {orders} live {volume} in {trades} turnover {turnover}"
+        "  added {added} executed {executed} removed {removed} open {open_shares} in {open_orders} live {live_volume} in {live_trades} turnover {turnover}"
     )
 }
 
 /// The other fields of a stock.
 fn put_stock(rt: &HostRuntime, stock: &Stock) -> io::Result<()> {
-    let category = stock.listing.category;
-    let lot = stock.listing.lot;
-    let authenticity = stock.listing.authenticity;
-    let stamp = stock.stamp;
-    let state = match stock.state {
-        TradingState::Halted => "halted",
-        TradingState::Trading => "trading",
-    };
-    let restriction = match stock.restriction {
-        None => "none told",
-        Some(ShortSale::NoPriceTest) => "no price test",
-        Some(ShortSale::Restricted) => "restricted",
-        Some(ShortSale::StillRestricted) => "still restricted",
-    };
-    println!(rt;
-        "stock 1 category {category} lot {lot} authenticity {authenticity} {state} {restriction} stamp {stamp}"
-    )
+    print!(rt;
+        "stock 1 category {} lot {} authenticity {} {} ",
+        stock.listing.category, stock.listing.lot, stock.listing.authenticity, stock.state
+    )?;
+    match stock.restriction {
+        Some(restriction) => print!(rt; "{restriction}")?,
+        None => print!(rt; "none told")?,
+    }
+    println!(rt; " stamp {}", stock.stamp)
 }
 
 fn put_order(rt: &HostRuntime, reference: u64, order: Option<Order>) -> io::Result<()> {
     match order {
+        Some(order) => println!(rt;
+            "order {reference} locate {} {} at {}",
+            order.locate, order.shares, order.price
+        ),
         None => println!(rt; "order {reference} absent"),
-        Some(order) => {
-            let locate = order.locate;
-            let shares = order.shares;
-            let price = order.price;
-            println!(rt; "order {reference} locate {locate} {shares} at {price}")
-        }
     }
 }
 
 fn put_trace(rt: &HostRuntime, number: u64, trace: Option<(u64, Standing, u64)>) -> io::Result<()> {
     match trace {
+        Some((last, standing, steps)) => println!(rt;
+            "trace {number} ends at {last} {standing} after {steps}"
+        ),
         None => println!(rt; "trace {number} absent"),
-        Some((last, standing, steps)) => {
-            let standing = match standing {
-                Standing::Live => "live",
-                Standing::Broken => "broken",
-                Standing::Corrected(_) => "corrected",
-            };
-            println!(rt; "trace {number} ends at {last} {standing} after {steps}")
-        }
     }
 }

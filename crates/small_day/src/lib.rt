@@ -3,19 +3,21 @@
 #![tactic(auto)]
 
 ghost use Rattle.std.specs.Prelude.{◌≡◌, ◌≤◌, length, IfOk};
-ghost use Rattle.small_day.specs.SmallDay.{Told};
-ghost use Rattle.small_day.specs.declared.DayError.TheVariants.{NoMemory as no_memory};
+ghost use Rattle.std.specs.IoError.{error_kind};
+ghost use Rattle.small_day.specs.SmallDay.{Told, kind_of};
+ghost use Rattle.small_day.specs.declared.DayError.TheVariants.{NoMemory as no_memory, Refused as refused};
 
 use book::fault::BookFault;
 use day::run;
 use ordered::Ordered;
 use std::alloc::{AllocError, Global};
+use std::io;
 
 /// Places in each store.
 const PLACES: usize = 512;
 
 /// Why there is nothing to tell.
-#[derive(Clone, Copy)]
+#[derive(Clone, Copy, PartialEq, Eq)]
 pub enum DayError {
     NoMemory,
     Refused(BookFault),
@@ -26,6 +28,25 @@ impl From<AllocError> for DayError {
 
     fn from(_error: AllocError) -> DayError {
         DayError::NoMemory
+    }
+}
+
+impl From<BookFault> for DayError {
+    ghost from_gives = { λ fault r. r ≡ refused fault };
+
+    fn from(fault: BookFault) -> DayError {
+        DayError::Refused(fault)
+    }
+}
+
+impl From<DayError> for io::Error {
+    ghost from_gives = { λ error e. error_kind e ≡ kind_of error };
+
+    fn from(error: DayError) -> io::Error {
+        match error {
+            DayError::NoMemory => io::Error::from(io::ErrorKind::OutOfMemory),
+            DayError::Refused(_) => io::Error::from(io::ErrorKind::Other),
+        }
     }
 }
 
@@ -44,8 +65,5 @@ pub fn tell(heap: Global, capture: &[u8], buf: &mut [u8]) -> Result<usize, DayEr
         capture,
         buf,
     );
-    match told {
-        Ok(len) => Ok(len),
-        Err(fault) => Err(DayError::Refused(fault)),
-    }
+    Ok(told?)
 }

@@ -16,7 +16,7 @@ pub returns-in_err-trades : goal.returns-in_err-trades
 returns-in_err-trades c =
     let p = err_from_is_err_and c.from_residual-in_err-trades.result c.from_residual-in_err-trades.ensures.1 in rw (p.1, p.2) (record { told = refl; within = tt })
 
-pub returns-in-Ok : goal.returns-in-Ok
-returns-in-Ok c =
-    let t : Told c.args.capture.now c.args.buf.now (Ok c.in-Ok.len) c.run-told.new.buf = search rules in
-    record { told = t; within = ends_within (text c.args.capture.now) c.args.buf.now c.in-Ok.len t.0 }
+pub returns : goal.returns
+returns c =
+    let t : Told c.args.capture.now c.args.buf.now (Ok c.in_ok-told.field-0) c.run-told.new.buf = search rules in
+    record { told = t; within = ends_within (text c.args.capture.now) c.args.buf.now c.in_ok-told.field-0 t.0 }

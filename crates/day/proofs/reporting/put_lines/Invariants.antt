@@ -1,17 +1,12 @@
 -- the front of the report stands in the buffer, and the lines that are left are the rest of it
 use Rattle.std.proofs.Common.{◌≡◌, ◌+◌, ◌-◌, ◌≤◌, length, take, drop}
-use Rattle.book.specs.Report.{lines_of}
-use Rattle.store.specs.Held.{onward}
-use Rattle.text.specs.Line.{lines}
 use Rattle.text.specs.Placed.{written}
+use Rattle.day.proofs.Reports.{text_of}
 use Rattle.day.proofs.reporting.put_lines.Given as goal
 
 abbrev pub invariant-loop-locate : goal.invariant-loop-locate
 invariant-loop-locate g l =
     (l.start ≤ l.at)
-    × (l.at ≤ l.start + length (lines (lines_of (g.S.Holds.held l.engine.ledger.stocks).pairs)))
-    × (l.buf ≡ written l.initial.buf l.start (take (l.at - l.start) (lines (lines_of (g.S.Holds.held l.engine.ledger.stocks).pairs))))
-    × (drop (l.at - l.start) (lines (lines_of (g.S.Holds.held l.engine.ledger.stocks).pairs)) ≡ lines (lines_of (onward (g.S.Holds.held l.engine.ledger.stocks).pairs l.key)))
-
-abbrev pub decreases-loop-locate : goal.decreases-loop-locate
-decreases-loop-locate g l = length (onward (g.S.Holds.held l.engine.ledger.stocks).pairs l.key)
+    × (l.at ≤ l.start + length (text_of l.engine.stocks.pairs))
+    × (l.buf ≡ written l.initial.buf l.start (take (l.at - l.start) (text_of l.engine.stocks.pairs)))
+    × (drop (l.at - l.start) (text_of l.engine.stocks.pairs) ≡ text_of l.locate-iterator)
