@@ -46,10 +46,6 @@ abbrev pub correcting : Account → Figures → Figures → Account
 correcting a t u =
     record { added = a.added; removed = a.removed; volume = anew a.volume t.shares u.shares; turnover = anew a.turnover (worth t.price t.shares) (worth u.price u.shares) }
 
--- the locate of a message
-abbrev pub locate_in : Msg → ℕ
-locate_in (says locate stamp b) = locate
-
 -- what a message is about
 abbrev pub about : Msg → Body
 about (says locate stamp b) = b

@@ -17,11 +17,7 @@ abbrev pub puts : Spot → List (List ℕ) → Spot
 puts s [] = s
 puts s (t ∷ ts) = puts (put s t) ts
 
--- These texts were put into a buffer from a place on.
-abbrev pub Puts : List ℕ → ℕ → List (List ℕ) → List ℕ → ℕ → Type 0
-Puts was at ts after end = puts (was, at) ts ≡ (after, end)
-
--- These texts were put by a pen, which holds the same buffer still.
+-- These texts were put by a pen from its place on, and it holds the same buffer still.
 abbrev pub Writes : Pen → List (List ℕ) → Pen → Type 0
 Writes p ts q = (puts (p.buf.now, p.at) ts ≡ (q.buf.now, q.at)) × (length q.buf.now ≡ length p.buf.now) × (q.buf.ghost_name ≡ p.buf.ghost_name)
 

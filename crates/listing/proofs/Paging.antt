@@ -154,11 +154,6 @@ module _ (f : Feed) (bytes : List ℕ) (s : ℕ) (buf : List ℕ) where
     going_end : fitting f (length buf - at) i (messages bytes i (total bytes - i)) ≡ 0 → i - s ≡ page_lines f bytes s (length buf)
     going_end z = let l = so.left in omega arith
 
-    pub going_all : total bytes ≤ i → i - s ≡ page_lines f bytes s (length buf)
-    going_all h =
-        let e : total bytes - i ≡ 0 = omega arith in
-        going_end (ap (λ (n : ℕ). fitting f (length buf - at) i (messages bytes i n)) e)
-
     pub going_full : i < total bytes → length buf < at + 256 → i - s ≡ page_lines f bytes s (length buf)
     going_full h short =
         let few : length buf - at < 256 = omega arith in
