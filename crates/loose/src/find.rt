@@ -31,7 +31,7 @@ fn seek<V: Copy>(slots: &[Slot<V>], key: u64) -> Option<usize>
 }
 
 // `stop` and `seek` have their like in the search for a pair to move: each is a line of std's with a test of its own.
-// Both ask for at most 65,536 slots, which the type says: while a hole is open they are lent out of it.
+// `seek` asks for at most 65,536 slots, which the table's type says: it takes the lent slots, as the closing of a hole does.
 /// The first slot in `low..high` that is free or holds `key`.
 fn stop<V: Copy>(slots: &[Slot<V>], low: usize, high: usize, key: u64) -> Option<usize>
     requires { high ≤ length slots.now }
