@@ -2,6 +2,7 @@
 
 ghost use Rattle.std.specs.Prelude.{◌≡◌};
 ghost use Rattle.book.specs.Play.{played};
+ghost use Rattle.engine.specs.Engine.{engine_book};
 
 use book::fault::PlayFault;
 use book::value::{Order, Stock, Trade};
@@ -17,8 +18,8 @@ pub fn play<S: Store<Stock>, O: Store<Order>, M: Store<Trade>>(
     capture: &[u8],
     start: usize,
 ) -> Result<usize, PlayFault>
-    ensures answer { result ≡ (played engine.old capture.now start).0 }
-    ensures after { engine.new ≡ (played engine.old capture.now start).1 }
+    ensures answer { result ≡ (played (engine_book S.Holds O.Holds M.Holds engine.old) capture.now start).0 }
+    ensures after { engine_book S.Holds O.Holds M.Holds engine.new ≡ (played (engine_book S.Holds O.Holds M.Holds engine.old) capture.now start).1 }
 {
     let capture = Capture::judge(capture)?;
     if start > capture.count() {

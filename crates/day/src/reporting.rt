@@ -2,6 +2,7 @@
 
 ghost use Rattle.std.specs.Prelude.{◌≡◌, ◌+◌, ◌≤◌, length, nat_le};
 ghost use Rattle.book.specs.Report.{line_of, report};
+ghost use Rattle.engine.specs.Engine.{engine_book};
 ghost use Rattle.text.specs.Placed.{written};
 
 use book::value::{Order, Stock, Trade};
@@ -26,7 +27,7 @@ pub(crate) fn fits<S: Store<Stock>, O: Store<Order>, M: Store<Trade>>(
     engine: &Engine<S, O, M>,
     room: usize,
 ) -> bool
-    ensures { result ≡ nat_le (length (report engine.now)) room }
+    ensures { result ≡ nat_le (length (report (engine_book S.Holds O.Holds M.Holds engine.now))) room }
 {
     let mut left = room;
     for (locate, stock) in engine.stocks() {
@@ -45,9 +46,9 @@ pub(crate) fn put_lines<S: Store<Stock>, O: Store<Order>, M: Store<Trade>>(
     buf: &mut [u8],
     start: usize,
 ) -> usize
-    requires { start + length (report engine.now) ≤ length buf.old }
-    ensures end { result ≡ start + length (report engine.now) }
-    ensures after { buf.new ≡ written buf.old start (report engine.now) }
+    requires { start + length (report (engine_book S.Holds O.Holds M.Holds engine.now)) ≤ length buf.old }
+    ensures end { result ≡ start + length (report (engine_book S.Holds O.Holds M.Holds engine.now)) }
+    ensures after { buf.new ≡ written buf.old start (report (engine_book S.Holds O.Holds M.Holds engine.now)) }
 {
     let mut at = start;
     for (locate, stock) in engine.stocks() {

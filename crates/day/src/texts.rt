@@ -3,6 +3,7 @@
 ghost use Rattle.std.specs.Prelude.{◌≡◌, ◌≤◌, length, None};
 ghost use Rattle.book.specs.Report.{report};
 ghost use Rattle.day.specs.Texts.{fault_text, day_text, front_text, texted, text_after};
+ghost use Rattle.engine.specs.Engine.{engine_book};
 ghost use Rattle.text.specs.Placed.{written};
 
 use crate::reporting::{fits, put_lines};
@@ -27,8 +28,8 @@ pub fn put_report<S: Store<Stock>, O: Store<Order>, M: Store<Trade>>(
     engine: &Engine<S, O, M>,
     buf: &mut [u8],
 ) -> Result<usize, BookFault>
-    ensures answer { result ≡ texted (report engine.now) buf.old }
-    ensures after { buf.new ≡ text_after (report engine.now) buf.old }
+    ensures answer { result ≡ texted (report (engine_book S.Holds O.Holds M.Holds engine.now)) buf.old }
+    ensures after { buf.new ≡ text_after (report (engine_book S.Holds O.Holds M.Holds engine.now)) buf.old }
 {
     put_day(engine, None, buf)
 }
@@ -39,8 +40,8 @@ pub fn put_day<S: Store<Stock>, O: Store<Order>, M: Store<Trade>>(
     fault: Option<PlayFault>,
     buf: &mut [u8],
 ) -> Result<usize, BookFault>
-    ensures answer { result ≡ texted (day_text fault engine.now) buf.old }
-    ensures after { buf.new ≡ text_after (day_text fault engine.now) buf.old }
+    ensures answer { result ≡ texted (day_text fault (engine_book S.Holds O.Holds M.Holds engine.now)) buf.old }
+    ensures after { buf.new ≡ text_after (day_text fault (engine_book S.Holds O.Holds M.Holds engine.now)) buf.old }
 {
     let width = front_width(fault);
     let len = buf.len();

@@ -1,5 +1,5 @@
 -- What feeding answers and leaves, once the bytes are decoded.
-use Rattle.std.proofs.Common.{◌≡◌, ℕ, ◌∷◌, ◌+◌, ◌<◌, ◌≤◌, List, Ok, Err, Result, sym, refl, ap, ◌∙◌, arith}
+use Rattle.std.proofs.Common.{◌≡◌, ℕ, ◌+◌, ◌<◌, ◌≤◌, List, Ok, Err, Result, sym, refl, ap, ◌∙◌, arith}
 use Rattle.std.proofs.lemmas.Bool.{lt-ltb, le-ltb}
 use Rattle.wire.specs.Table.{Row, Value}
 use Rattle.wire.specs.declared.message.Feed.TheVariants.{Depth}
@@ -11,18 +11,10 @@ use Rattle.book.specs.declared.fault.FeedFault.TheVariants.{Book as OfBook}
 use Rattle.book.specs.Book.{Book, answer, after}
 use Rattle.book.specs.Message.{heard}
 use Rattle.book.specs.Feed.{act, counted, lifted, fed_as, fed, count}
-use Rattle.laws.specs.Runs.{Reachable, feeds, when}
 
--- the book b' with so many messages accepted
-abbrev pub raised_to : ℕ → Book → Book
-raised_to n b' = record { phase = b'.phase; accepted = n; stocks = b'.stocks; orders = b'.orders; trades = b'.trades }
-
--- with one more than b
+-- the book b' with one message more accepted than b
 abbrev pub raised : Book → Book → Book
-raised b b' = raised_to (b.accepted + 1) b'
-
-pub raised_as : (n m : ℕ) (b b' : Book) → n ≡ m → b ≡ b' → raised_to (n + 1) b ≡ raised_to (m + 1) b'
-raised_as n m b b' e f = ap (λ k. raised_to (k + 1) b) e ∙ ap (raised_to (m + 1)) f
+raised b b' = record { phase = b'.phase; accepted = b.accepted + 1; stocks = b'.stocks; orders = b'.orders; trades = b'.trades }
 
 -- what a call of feeding ensures
 abbrev pub Fed : Book → List ℕ → Result ℕ FeedFault → Book → Type 0
@@ -57,13 +49,3 @@ module _ (b : Book) (bytes : List ℕ) (m : Row × List Value) (e : Ok m ≡ dec
   pub taken : (b' : Book) → b.accepted < 1_000_000_000 → Ok tt ≡ answer (act b (heard m)) → b' ≡ after b (act b (heard m)) →
       Fed b bytes (Ok (b.accepted + 1)) (raised b b')
   taken b' l p q = let r = taken_as b b' (act b (heard m)) l p q in (r.0 ∙ sym (ap count said), r.1 ∙ sym (ap (after b) said))
-
--- a refused message leaves the book as it was
-pub left_by : (b b' : Book) (f : BookFault) (x : Result Book BookFault) → Err f ≡ answer x → b' ≡ after b x → b ≡ b'
-left_by b b' f (Err g) p q = sym q
-left_by b b' f (Ok y) p q = absurd (let z : ◌≡◌ {A = ℕ} 0 1 = cc in omega arith)
-
--- a fed message is one call more
-pub fed_on : (b b' : Book) (bytes : List ℕ) → Reachable b → after b (fed b bytes) ≡ b' → Reachable b'
-fed_on b b' bytes r e =
-    (when r.0 (feeds bytes ∷ r.0.calls), ap (λ (x : Book). after x (fed x bytes)) r.1 ∙ e)

@@ -4,6 +4,8 @@ ghost use Rattle.std.specs.Prelude.{◌≡◌};
 ghost use Rattle.book.specs.Book.{after};
 ghost use Rattle.book.specs.Feed.{Acts, fed, count};
 ghost use Rattle.book.specs.Message.{heard};
+ghost use Rattle.engine.specs.Engine.{engine_book};
+ghost use Rattle.ledger.specs.Ledger.{book_in};
 ghost use Rattle.wire.specs.Told.{told};
 
 use crate::making::Engine;
@@ -24,8 +26,8 @@ const MOST: u64 = 1_000_000_000;
 impl<S: Store<Stock>, O: Store<Order>, M: Store<Trade>> Engine<S, O, M> {
     /// Feeds the bytes of a Depth message, and answers how many messages are accepted so far.
     pub fn feed(&mut self, bytes: &[u8]) -> Result<u64, FeedFault>
-        ensures answer { result ≡ count (fed self.old bytes.now) }
-        ensures after { self.new ≡ after self.old (fed self.old bytes.now) }
+        ensures answer { result ≡ count (fed (engine_book S.Holds O.Holds M.Holds self.old) bytes.now) }
+        ensures after { engine_book S.Holds O.Holds M.Holds self.new ≡ after (engine_book S.Holds O.Holds M.Holds self.old) (fed (engine_book S.Holds O.Holds M.Holds self.old) bytes.now) }
     {
         let message = decode(Feed::Depth, bytes)?;
         if self.ledger.accepted >= MOST {
@@ -43,7 +45,7 @@ fn event<S: Store<Stock>, O: Store<Order>, M: Store<Trade>>(
     ledger: &mut Ledger<S, O, M>,
     m: &Event,
 ) -> Result<(), BookFault>
-    ensures { Acts ledger.old (heard (told (Message.Event m.now))) result ledger.new }
+    ensures { Acts (book_in S.Holds O.Holds M.Holds ledger.old) (heard (told (Message.Event m.now))) result (book_in S.Holds O.Holds M.Holds ledger.new) }
 {
     advance(&mut ledger.phase, m.event)
 }
@@ -53,7 +55,7 @@ fn act<'a, S: Store<Stock>, O: Store<Order>, M: Store<Trade>>(
     ledger: &mut Ledger<S, O, M>,
     m: &Message<'a>,
 ) -> Result<(), BookFault>
-    ensures { Acts ledger.old (heard (told m.now)) result ledger.new }
+    ensures { Acts (book_in S.Holds O.Holds M.Holds ledger.old) (heard (told m.now)) result (book_in S.Holds O.Holds M.Holds ledger.new) }
 {
     match m {
         Message::Event(m) => event(ledger, m),

@@ -7,8 +7,9 @@ ghost use Rattle.book.specs.Book.{stock};
 ghost use Rattle.book.specs.declared.value.Stock.{Stock};
 ghost use Rattle.book.specs.Quote.{quote};
 ghost use Rattle.book.specs.Trace.{trace};
+ghost use Rattle.engine.specs.Engine.{engine_book};
 ghost use Rattle.laws.specs.Laws.{StockLaws, QuoteLaws, TraceLaws};
-ghost use Rattle.laws.specs.Runs.{Moment, Reachable, book_of};
+ghost use Rattle.laws.specs.Runs.{Moment, book_of};
 ghost use Rattle.quotes.specs.Rule.{QuoteRule};
 ghost use Rattle.store.specs.Held.{find, from};
 
@@ -19,20 +20,17 @@ use quotes::best_levels;
 use store::{PairIter, Store, pairs};
 
 impl<S: Store<Stock>, O: Store<Order>, M: Store<Trade>> Engine<S, O, M> {
-    /// A known stock. A run of calls led to this engine, and whatever run leads to its book, the stock's sums keep the laws over runs.
+    /// A known stock. Whatever calls led to this engine's book, its sums keep the laws over runs.
     pub fn stock(&self, locate: u16) -> Result<Stock, BookFault>
-        ensures value { result ≡ stock self.now locate 0 }
-        ensures run { Reachable self.now }
-        ensures laws { (m : Moment) → book_of m ≡ self.now → StockLaws m locate result }
+        ensures value { result ≡ stock (engine_book S.Holds O.Holds M.Holds self.now) locate 0 }
+        ensures laws { (m : Moment) → book_of m ≡ engine_book S.Holds O.Holds M.Holds self.now → StockLaws m locate result }
     {
-        // Looked at, since its type's invariant tells of the run.
-        let _ = &self.ledger;
         self.known_stock(locate)
     }
 
     // A known stock: a reading has no message that a place could point into.
     fn known_stock(&self, locate: u16) -> Result<Stock, BookFault>
-        ensures { result ≡ stock self.now locate 0 }
+        ensures { result ≡ stock (engine_book S.Holds O.Holds M.Holds self.now) locate 0 }
     {
         self.ledger
             .stocks
@@ -42,14 +40,14 @@ impl<S: Store<Stock>, O: Store<Order>, M: Store<Trade>> Engine<S, O, M> {
 
     /// The known stock with the smallest locate at or above `locate`, and that locate.
     pub fn stock_from(&self, locate: u64) -> Option<(u64, Stock)>
-        ensures { result ≡ from self.now.stocks.pairs locate }
+        ensures { result ≡ from (engine_book S.Holds O.Holds M.Holds self.now).stocks.pairs locate }
     {
         self.ledger.stocks.first_from(locate)
     }
 
     /// The known stocks with their locates, in rising order of these.
     pub fn stocks(&self) -> PairIter<'_, Stock, S>
-        ensures all { result ≡ self.now.stocks.pairs }
+        ensures all { result ≡ (engine_book S.Holds O.Holds M.Holds self.now).stocks.pairs }
         ensures runs { YieldsInOrder (YieldsFirst {A = ℕ × Stock} (λ rest. rest)) (λ rest. rest) }
     {
         pairs(&self.ledger.stocks)
@@ -57,17 +55,17 @@ impl<S: Store<Stock>, O: Store<Order>, M: Store<Trade>> Engine<S, O, M> {
 
     /// The best bid and offer of a known stock, each with all open shares at its price.
     pub fn quote(&self, locate: u16) -> Result<Quote, BookFault>
-        ensures answer { result ≡ quote self.now locate }
-        ensures relation { QuoteRule self.now locate result }
-        ensures laws { (m : Moment) → book_of m ≡ self.now → QuoteLaws m locate result }
+        ensures answer { result ≡ quote (engine_book S.Holds O.Holds M.Holds self.now) locate }
+        ensures relation { QuoteRule (engine_book S.Holds O.Holds M.Holds self.now) locate result }
+        ensures laws { (m : Moment) → book_of m ≡ engine_book S.Holds O.Holds M.Holds self.now → QuoteLaws m locate result }
     {
         self.best_of(locate)
     }
 
     // The levels, if the stock is known. Apart from `quote`, whose laws are then proved of this answer.
     fn best_of(&self, locate: u16) -> Result<Quote, BookFault>
-        ensures answer { result ≡ quote self.now locate }
-        ensures relation { QuoteRule self.now locate result }
+        ensures answer { result ≡ quote (engine_book S.Holds O.Holds M.Holds self.now) locate }
+        ensures relation { QuoteRule (engine_book S.Holds O.Holds M.Holds self.now) locate result }
     {
         self.known_stock(locate)?;
         Ok(best_levels(&self.ledger.orders, locate))
@@ -75,22 +73,22 @@ impl<S: Store<Stock>, O: Store<Order>, M: Store<Trade>> Engine<S, O, M> {
 
     /// An open order.
     pub fn order(&self, reference: u64) -> Option<Order>
-        ensures { result ≡ find self.now.orders reference }
+        ensures { result ≡ find (engine_book S.Holds O.Holds M.Holds self.now).orders reference }
     {
         self.ledger.orders.get(reference)
     }
 
     /// The last match number, its standing and the steps taken, from a match number through its corrections.
     pub fn trace(&self, match_number: u64) -> Option<(u64, Standing, u64)>
-        ensures value { result ≡ trace self.now.trades match_number }
-        ensures laws { (m : Moment) → book_of m ≡ self.now → TraceLaws m match_number result }
+        ensures value { result ≡ trace (engine_book S.Holds O.Holds M.Holds self.now).trades match_number }
+        ensures laws { (m : Moment) → book_of m ≡ engine_book S.Holds O.Holds M.Holds self.now → TraceLaws m match_number result }
     {
         self.followed(match_number)
     }
 
     // The walk through the corrections: it takes no more steps than there are trades. A rule of the project: it falls by a measure.
     fn followed(&self, match_number: u64) -> Option<(u64, Standing, u64)>
-        ensures { result ≡ trace self.now.trades match_number }
+        ensures { result ≡ trace (engine_book S.Holds O.Holds M.Holds self.now).trades match_number }
     {
         let count = self.ledger.trades.count();
         let mut number = match_number;

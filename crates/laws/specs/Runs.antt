@@ -1,5 +1,5 @@
 -- Calls on an engine, and runs: what calls make of a new engine's book, and the messages that they accepted.
-use Rattle.std.specs.Prelude.{◌≡◌, ℕ, ◌-◌, ◌≤◌, List, [], ◌∷◌, ◌++◌, Ok, Err, Result}
+use Rattle.std.specs.Prelude.{ℕ, ◌-◌, ◌≤◌, List, [], ◌∷◌, ◌++◌, Ok, Err, Result}
 use Rattle.capture.specs.Index.{count as index_count, messages}
 use Rattle.wire.specs.declared.fault.WireFault.{WireFault}
 use Rattle.wire.specs.declared.message.Feed.TheVariants.{Depth}
@@ -93,10 +93,6 @@ begun m = fresh m.stocks m.orders m.trades
 -- the book at a moment
 abbrev pub book_of : Moment → Book
 book_of m = after_calls (begun m) m.calls
-
--- a book that a run leads to
-abbrev pub Reachable : Book → Type 0
-Reachable b = (m : Moment) × (book_of m ≡ b)
 
 -- the messages accepted up to a moment, the newest first
 abbrev pub history : Moment → List Msg

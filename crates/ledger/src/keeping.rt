@@ -5,20 +5,20 @@ ghost use Rattle.book.specs.Book.{known, with_stocks};
 ghost use Rattle.book.specs.Orders.{order};
 ghost use Rattle.book.specs.Trades.{trade};
 ghost use Rattle.ledger.specs.Kept.{kept};
+ghost use Rattle.ledger.specs.Ledger.{book_in};
 
 use crate::day::due;
 use crate::ours::ours;
 use book::fault::BookFault;
 use book::phase::Phase;
 use book::value::{Order, Stock, Trade};
-use std::marker::Model;
 use store::Store;
 use wire::message::Head;
 
 /// How far the day has come, how many messages were accepted, and the stores of stocks, open orders and trades.
 // A parameter for each store: one trait with three types of its own would ask a buyer for such a type for each mix of stores.
 #[derive(Drop)]
-pub struct Ledger<S: Store<Stock>, O: Store<Order>, M: Store<Trade>> {
+pub struct Ledger<S, O, M> {
     pub stocks: S,
     pub orders: O,
     pub trades: M,
@@ -26,21 +26,10 @@ pub struct Ledger<S: Store<Stock>, O: Store<Order>, M: Store<Trade>> {
     pub accepted: u64,
 }
 
-/// A ledger is the book that it keeps.
-impl<S: Store<Stock>, O: Store<Order>, M: Store<Trade>> Model for Ledger<S, O, M> {
-    ghost use Rattle.book.specs.Book.{Book};
-
-    ghost Value = { Book };
-
-    ghost use Rattle.ledger.specs.Ledger.{book_in};
-
-    ghost view = { book_in S.Holds O.Holds M.Holds };
-}
-
 impl<S: Store<Stock>, O: Store<Order>, M: Store<Trade>> Ledger<S, O, M> {
     /// The stock that a message is about, if such a message is due.
     pub fn known(&self, locate: u16) -> Result<Stock, BookFault>
-        ensures { result ≡ known self.now locate }
+        ensures { result ≡ known (book_in S.Holds O.Holds M.Holds self.now) locate }
     {
         due(self.phase)?;
         self.stocks
@@ -50,7 +39,7 @@ impl<S: Store<Stock>, O: Store<Order>, M: Store<Trade>> Ledger<S, O, M> {
 
     /// The open order under a reference, if it is this stock's.
     pub fn order(&self, locate: u16, reference: u64) -> Result<Order, BookFault>
-        ensures { result ≡ order self.now locate reference }
+        ensures { result ≡ order (book_in S.Holds O.Holds M.Holds self.now) locate reference }
     {
         ours(
             self.orders.get(reference),
@@ -62,7 +51,7 @@ impl<S: Store<Stock>, O: Store<Order>, M: Store<Trade>> Ledger<S, O, M> {
     // As `order`, of another store and with another fault: the question that both ask is `ours`.
     /// The trade under a match number, if it is this stock's.
     pub fn trade(&self, locate: u16, match_number: u64) -> Result<Trade, BookFault>
-        ensures { result ≡ trade self.now locate match_number }
+        ensures { result ≡ trade (book_in S.Holds O.Holds M.Holds self.now) locate match_number }
     {
         ours(
             self.trades.get(match_number),
@@ -73,7 +62,7 @@ impl<S: Store<Stock>, O: Store<Order>, M: Store<Trade>> Ledger<S, O, M> {
 
     /// Keeps a known stock as a message leaves it, with the message's time stamp.
     pub fn keep(&mut self, head: Head, stock: Stock)
-        ensures { self.new ≡ kept self.old head stock }
+        ensures { book_in S.Holds O.Holds M.Holds self.new ≡ kept (book_in S.Holds O.Holds M.Holds self.old) head stock }
     {
         let _ = self.stocks.change(
             head.locate as u64,

@@ -6,6 +6,7 @@ ghost use Rattle.std.specs.Prelude.{◌≡◌};
 ghost use Rattle.book.specs.Feed.{Acts};
 ghost use Rattle.book.specs.Message.{heard};
 ghost use Rattle.book.specs.Orders.{reduce, reduces};
+ghost use Rattle.ledger.specs.Ledger.{book_in};
 ghost use Rattle.wire.specs.Told.{told};
 
 use book::fault::BookFault;
@@ -44,7 +45,7 @@ pub fn cancel<S: Store<Stock>, O: Store<Order>, M: Store<Trade>>(
     ledger: &mut Ledger<S, O, M>,
     m: &Cancel,
 ) -> Result<(), BookFault>
-    ensures { Acts ledger.old (heard (told (Message.Cancel m.now))) result ledger.new }
+    ensures { Acts (book_in S.Holds O.Holds M.Holds ledger.old) (heard (told (Message.Cancel m.now))) result (book_in S.Holds O.Holds M.Holds ledger.new) }
 {
     let stock = ledger.known(m.head.locate)?;
     let order = ledger.order(m.head.locate, m.reference)?;
@@ -60,7 +61,7 @@ pub fn delete<S: Store<Stock>, O: Store<Order>, M: Store<Trade>>(
     ledger: &mut Ledger<S, O, M>,
     m: &Delete,
 ) -> Result<(), BookFault>
-    ensures { Acts ledger.old (heard (told (Message.Delete m.now))) result ledger.new }
+    ensures { Acts (book_in S.Holds O.Holds M.Holds ledger.old) (heard (told (Message.Delete m.now))) result (book_in S.Holds O.Holds M.Holds ledger.new) }
 {
     let stock = ledger.known(m.head.locate)?;
     let order = ledger.order(m.head.locate, m.reference)?;

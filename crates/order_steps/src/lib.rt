@@ -5,6 +5,7 @@
 ghost use Rattle.std.specs.Prelude.{◌≡◌};
 ghost use Rattle.book.specs.Feed.{Acts};
 ghost use Rattle.book.specs.Message.{heard};
+ghost use Rattle.ledger.specs.Ledger.{book_in};
 ghost use Rattle.wire.specs.Told.{told};
 
 use book::fault::BookFault;
@@ -21,7 +22,7 @@ pub fn add<'a, S: Store<Stock>, O: Store<Order>, M: Store<Trade>>(
     ledger: &mut Ledger<S, O, M>,
     m: &Add<'a>,
 ) -> Result<(), BookFault>
-    ensures { Acts ledger.old (heard (told (Message.Add m.now))) result ledger.new }
+    ensures { Acts (book_in S.Holds O.Holds M.Holds ledger.old) (heard (told (Message.Add m.now))) result (book_in S.Holds O.Holds M.Holds ledger.new) }
 {
     let stock = ledger.known(m.head.locate)?;
     owned(&stock, m.stock.bytes, 24)?;
@@ -47,7 +48,7 @@ pub fn execute<S: Store<Stock>, O: Store<Order>, M: Store<Trade>>(
     ledger: &mut Ledger<S, O, M>,
     m: &Execute,
 ) -> Result<(), BookFault>
-    ensures { Acts ledger.old (heard (told (Message.Execute m.now))) result ledger.new }
+    ensures { Acts (book_in S.Holds O.Holds M.Holds ledger.old) (heard (told (Message.Execute m.now))) result (book_in S.Holds O.Holds M.Holds ledger.new) }
 {
     let stock = ledger.known(m.head.locate)?;
     let order = ledger.order(m.head.locate, m.reference)?;
@@ -76,7 +77,7 @@ pub fn replace<S: Store<Stock>, O: Store<Order>, M: Store<Trade>>(
     ledger: &mut Ledger<S, O, M>,
     m: &Replace,
 ) -> Result<(), BookFault>
-    ensures { Acts ledger.old (heard (told (Message.Replace m.now))) result ledger.new }
+    ensures { Acts (book_in S.Holds O.Holds M.Holds ledger.old) (heard (told (Message.Replace m.now))) result (book_in S.Holds O.Holds M.Holds ledger.new) }
 {
     let stock = ledger.known(m.head.locate)?;
     let order = ledger.order(m.head.locate, m.original)?;

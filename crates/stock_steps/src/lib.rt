@@ -6,6 +6,7 @@ ghost use Rattle.std.specs.Prelude.{◌≡◌};
 ghost use Rattle.book.specs.Feed.{Acts};
 ghost use Rattle.book.specs.Message.{heard};
 ghost use Rattle.book.specs.Stocks.{elsewhere, entered};
+ghost use Rattle.ledger.specs.Ledger.{book_in};
 ghost use Rattle.wire.specs.Told.{told};
 
 use book::fault::BookFault;
@@ -43,7 +44,7 @@ pub fn list<'a, S: Store<Stock>, O: Store<Order>, M: Store<Trade>>(
     ledger: &mut Ledger<S, O, M>,
     m: &Directory<'a>,
 ) -> Result<(), BookFault>
-    ensures { Acts ledger.old (heard (told (Message.Directory m.now))) result ledger.new }
+    ensures { Acts (book_in S.Holds O.Holds M.Holds ledger.old) (heard (told (Message.Directory m.now))) result (book_in S.Holds O.Holds M.Holds ledger.new) }
 {
     due(ledger.phase)?;
     let listing = Listing {
@@ -75,7 +76,7 @@ pub fn act_on_trading<'a, S: Store<Stock>, O: Store<Order>, M: Store<Trade>>(
     ledger: &mut Ledger<S, O, M>,
     m: &TradingAction<'a>,
 ) -> Result<(), BookFault>
-    ensures { Acts ledger.old (heard (told (Message.TradingAction m.now))) result ledger.new }
+    ensures { Acts (book_in S.Holds O.Holds M.Holds ledger.old) (heard (told (Message.TradingAction m.now))) result (book_in S.Holds O.Holds M.Holds ledger.new) }
 {
     let stock = ledger.known(m.head.locate)?;
     owned(&stock, m.stock.bytes, 11)?;
@@ -90,7 +91,7 @@ pub fn restrict<'a, S: Store<Stock>, O: Store<Order>, M: Store<Trade>>(
     ledger: &mut Ledger<S, O, M>,
     m: &Restriction<'a>,
 ) -> Result<(), BookFault>
-    ensures { Acts ledger.old (heard (told (Message.Restriction m.now))) result ledger.new }
+    ensures { Acts (book_in S.Holds O.Holds M.Holds ledger.old) (heard (told (Message.Restriction m.now))) result (book_in S.Holds O.Holds M.Holds ledger.new) }
 {
     let stock = ledger.known(m.head.locate)?;
     owned(&stock, m.stock.bytes, 11)?;

@@ -5,6 +5,7 @@
 ghost use Rattle.std.specs.Prelude.{◌≡◌};
 ghost use Rattle.book.specs.Feed.{Acts};
 ghost use Rattle.book.specs.Message.{heard};
+ghost use Rattle.ledger.specs.Ledger.{book_in};
 ghost use Rattle.wire.specs.Told.{told};
 
 use book::fault::BookFault;
@@ -19,7 +20,7 @@ pub fn correct<S: Store<Stock>, O: Store<Order>, M: Store<Trade>>(
     ledger: &mut Ledger<S, O, M>,
     m: &Correct,
 ) -> Result<(), BookFault>
-    ensures { Acts ledger.old (heard (told (Message.Correct m.now))) result ledger.new }
+    ensures { Acts (book_in S.Holds O.Holds M.Holds ledger.old) (heard (told (Message.Correct m.now))) result (book_in S.Holds O.Holds M.Holds ledger.new) }
 {
     let stock = ledger.known(m.head.locate)?;
     let old = ledger.trade(m.head.locate, m.match_number)?;
@@ -54,7 +55,7 @@ pub fn break_trade<S: Store<Stock>, O: Store<Order>, M: Store<Trade>>(
     ledger: &mut Ledger<S, O, M>,
     m: &Break,
 ) -> Result<(), BookFault>
-    ensures { Acts ledger.old (heard (told (Message.Break m.now))) result ledger.new }
+    ensures { Acts (book_in S.Holds O.Holds M.Holds ledger.old) (heard (told (Message.Break m.now))) result (book_in S.Holds O.Holds M.Holds ledger.new) }
 {
     let stock = ledger.known(m.head.locate)?;
     let trade = ledger.trade(m.head.locate, m.match_number)?;

@@ -5,6 +5,7 @@ use Rattle.capture.specs.Index.{message}
 use Rattle.book.specs.declared.fault.FeedFault.{FeedFault}
 use Rattle.book.specs.declared.fault.PlayFault.TheVariants.{Message}
 use Rattle.book.specs.Play.{played}
+use Rattle.engine.specs.Engine.{engine_book}
 use Rattle.day.proofs.Played.{goes, stops, starts, ends, refused_by}
 use Rattle.day.proofs.playing.play.Goals as goal
 
@@ -33,10 +34,10 @@ returns-in_err-map_err g c =
     let more : s.pair < cap.count = omega (arith, st.0, ap (λ (x : Capture). x.count) i.0) in
     let is : c.in-Some.message.now ≡ message cap.bytes.now s.pair = st.2 ∙ ap (λ (x : Capture). message x.bytes.now s.pair) i.0 in
     let p = err_from_is_err_and c.from_residual-in_err-map_err.result c.from_residual-in_err-map_err.ensures.1 in
-    let stop : (f : FeedFault) → c.feed.result ≡ Err f → played c.args.engine.now c.args.capture.now c.args.start ≡ (Err (Message s.pair f), c.feed.new.self) =
+    let stop : (f : FeedFault) → c.feed.result ≡ Err f → played (engine_book g.S.Holds g.O.Holds g.M.Holds c.args.engine.now) c.args.capture.now c.args.start ≡ (Err (Message s.pair f), engine_book g.S.Holds g.O.Holds g.M.Holds c.feed.new.self) =
     λ f e.
-    ap (λ (bytes : List ℕ). played c.args.engine.now bytes c.args.start) (sym c.in_ok-capture.ensures.bytes)
-    ∙ starts c.args.engine.now cap.bytes.now c.args.start cap.count (sym cap.judged) (omega (arith, c.if-start-count.false, c.count.ensures))
+    ap (λ (bytes : List ℕ). played (engine_book g.S.Holds g.O.Holds g.M.Holds c.args.engine.now) bytes c.args.start) (sym c.in_ok-capture.ensures.bytes)
+    ∙ starts (engine_book g.S.Holds g.O.Holds g.M.Holds c.args.engine.now) cap.bytes.now c.args.start cap.count (sym cap.judged) (omega (arith, c.if-start-count.false, c.count.ensures))
     ∙ sym i.3
     ∙ stops cap.bytes.now _ cap.count c.args.start s.pair _ _ i.1 more is c.feed.ensures.after f (sym e ∙ c.feed.ensures.answer) in
     let by = refused_by c.feed.result c.map_err.result c.in_err-map_err.field-0.0 c.map_err.ensures.variant c.in_err-map_err.was in
@@ -50,9 +51,9 @@ returns g c =
     let i = c.loop-pair.invariant in
     let cap = c.in_ok-capture.capture in
     let at_end : c.loop-pair.pair-iterator.pair ≡ cap.count = omega (arith, i.2, c.in-None.ensures.steps.0, ap (λ (x : Capture). x.count) i.0) in
-    let all : played c.args.engine.now c.args.capture.now c.args.start ≡ (Ok (cap.count - c.args.start), c.loop-pair.engine) =
-    ap (λ (bytes : List ℕ). played c.args.engine.now bytes c.args.start) (sym c.in_ok-capture.ensures.bytes)
-    ∙ starts c.args.engine.now cap.bytes.now c.args.start cap.count (sym cap.judged) (omega (arith, c.if-start-count.false, c.count.ensures))
+    let all : played (engine_book g.S.Holds g.O.Holds g.M.Holds c.args.engine.now) c.args.capture.now c.args.start ≡ (Ok (cap.count - c.args.start), engine_book g.S.Holds g.O.Holds g.M.Holds c.loop-pair.engine) =
+    ap (λ (bytes : List ℕ). played (engine_book g.S.Holds g.O.Holds g.M.Holds c.args.engine.now) bytes c.args.start) (sym c.in_ok-capture.ensures.bytes)
+    ∙ starts (engine_book g.S.Holds g.O.Holds g.M.Holds c.args.engine.now) cap.bytes.now c.args.start cap.count (sym cap.judged) (omega (arith, c.if-start-count.false, c.count.ensures))
     ∙ sym i.3
-    ∙ ends cap.bytes.now cap.count c.args.start c.loop-pair.pair-iterator.pair c.loop-pair.engine at_end in
+    ∙ ends cap.bytes.now cap.count c.args.start c.loop-pair.pair-iterator.pair (engine_book g.S.Holds g.O.Holds g.M.Holds c.loop-pair.engine) at_end in
     record { answer = rw c.count-2.ensures (sym (ap (λ x. x.0) all)); after = sym (ap (λ x. x.1) all) }

@@ -5,4 +5,4 @@ use Rattle.day.proofs.reporting.fits.Given as goal
 
 abbrev pub invariant-loop-locate : goal.invariant-loop-locate
 invariant-loop-locate g l =
-    leb (length (text_of l.locate-iterator)) l.left ≡ leb (length (text_of l.engine.stocks.pairs)) l.initial.left
+    leb (length (text_of l.locate-iterator)) l.left ≡ leb (length (text_of (g.S.Holds.held l.engine.ledger.stocks).pairs)) l.initial.left

@@ -8,7 +8,7 @@ use Rattle.day.proofs.reporting.put_lines.Goals as goal
 
 pub loop-locate-init : goal.loop-locate-init
 loop-locate-init g c =
-    let r = text_of c.args.engine.now.stocks.pairs in
+    let r = text_of (g.S.Holds.held c.args.engine.now.ledger.stocks).pairs in
     let z : c.args.start - c.args.start ≡ 0 = omega arith in (
       omega arith,
       omega arith,
@@ -22,7 +22,7 @@ unwrap-at-requires g c =
     let l = line_at (c.in-Some.locate, c.in-Some.stock) in
     let n = ap (λ (l : Line). length (line l)) c.line_of.ensures in
     let rest = inv.3 ∙ ap text_of c.in-Some.ensures.steps in
-    let room = has_room (text_of c.args.engine.now.stocks.pairs) l (text_of c.next.new.self) c.args.buf.now c.loop-locate.buf c.args.start c.loop-locate.at 0 inv.0 inv.1 inv.2 rest in
+    let room = has_room (text_of (g.S.Holds.held c.args.engine.now.ledger.stocks).pairs) l (text_of c.next.new.self) c.args.buf.now c.loop-locate.buf c.args.start c.loop-locate.at 0 inv.0 inv.1 inv.2 rest in
     is_placed _ _ _ _ _ c.put.ensures (omega (arith, room, n, c.requires, c.loop-locate.auto.buf))
 
 pub loop-locate-preserved : goal.loop-locate-preserved
@@ -30,7 +30,7 @@ loop-locate-preserved g c =
     let inv = c.loop-locate.invariant in
     let l = line_at (c.in-Some.locate, c.in-Some.stock) in
     let r = text_of c.next.new.self in
-    let report = text_of c.args.engine.now.stocks.pairs in
+    let report = text_of (g.S.Holds.held c.args.engine.now.ledger.stocks).pairs in
     let b = c.args.buf.now in
     let put = placed_as _ _ _ _ _ c.unwrap-at.result c.put.ensures c.unwrap-at.ensures in
     let ends = put.0 ∙ ap (λ (l : Line). c.loop-locate.at + length (line l)) c.line_of.ensures in
@@ -44,5 +44,5 @@ loop-locate-preserved g c =
 pub returns : goal.returns
 returns g c =
     let inv = c.loop-locate.invariant in
-    let w = stands_whole (text_of c.args.engine.now.stocks.pairs) c.args.buf.now c.loop-locate.buf c.args.start c.loop-locate.at inv.0 inv.1 inv.2 (inv.3 ∙ ap text_of c.in-None.ensures.steps.0) in
+    let w = stands_whole (text_of (g.S.Holds.held c.args.engine.now.ledger.stocks).pairs) c.args.buf.now c.loop-locate.buf c.args.start c.loop-locate.at inv.0 inv.1 inv.2 (inv.3 ∙ ap text_of c.in-None.ensures.steps.0) in
     record { end = w.0; after = w.1 }

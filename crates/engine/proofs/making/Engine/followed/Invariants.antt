@@ -6,7 +6,7 @@ use Rattle.engine.proofs.making.Engine.followed.Given as goal
 abbrev pub invariant-loop-steps : goal.invariant-loop-steps
 invariant-loop-steps g l =
     (l.steps ≤ l.count) ×
-    (walk (l.self-inside.ledger.trades) (l.count - l.steps) l.number l.steps ≡ walk (l.self-inside.ledger.trades) l.count l.initial.number 0)
+    (walk (g.M.Holds.held l.self.ledger.trades) (l.count - l.steps) l.number l.steps ≡ walk (g.M.Holds.held l.self.ledger.trades) l.count l.initial.number 0)
 
 abbrev pub decreases-loop-steps : goal.decreases-loop-steps
 decreases-loop-steps g l = l.count - l.steps

@@ -1,11 +1,12 @@
 use Rattle.std.proofs.Common.{sym, subst}
 use Rattle.laws.specs.Laws.{QuoteLaws}
 use Rattle.laws.proofs.Theorems.{quote_laws_of}
+use Rattle.engine.specs.Engine.{engine_book}
 use Rattle.engine.proofs.making.Engine.quote.Goals as goal
 
 pub returns : goal.returns
 returns g c =
-    let b = c.args.self.now in
+    let b = engine_book g.S.Holds g.O.Holds g.M.Holds c.args.self.now in
     record {
       answer = c.best_of.ensures.answer;
       relation = c.best_of.ensures.relation;
