@@ -17,10 +17,14 @@ fn exercise<S: Store<u64>>(table: &mut S, keys: &[u64], load: usize, rounds: usi
         let _ = table.put(*key, 1);
     }
     let mut sum = 0u64;
-    let ahead = keys[load.min(keys.len())..]
-        .iter()
-        .chain(keys.iter().cycle());
-    for ((round, old), new) in (0..rounds).zip(keys.iter().cycle()).zip(ahead) {
+    // Without keys it is key 0 all the time, and past the last key the first one put in is 0.
+    let ring = if keys.is_empty() { &[0] } else { keys };
+    let ahead = match keys.get(load..) {
+        Some(rest) if !rest.is_empty() => rest,
+        _ => &[0],
+    };
+    let ahead = ahead.iter().chain(ring.iter().cycle());
+    for ((round, old), new) in (0..rounds).zip(ring.iter().cycle()).zip(ahead) {
         sum = sum.wrapping_add(table.get(*old).unwrap_or(0));
         let _ = table.change(*old, round as u64);
         let _ = table.take_out(*old);
