@@ -10,7 +10,7 @@ use std::{env, io};
 use text::TooShort;
 use wire::message::Feed;
 
-/// How many bytes are written at a time.
+/// How many bytes are read or written at a time.
 const PIECE: usize = 1_048_576;
 
 fn main(rt: HostRuntime) -> io::Result<()> {
@@ -22,9 +22,8 @@ fn main(rt: HostRuntime) -> io::Result<()> {
 
 /// Lists the input as a capture of this feed.
 fn list(rt: &HostRuntime, feed: Feed) -> io::Result<()> {
-    let mut input = Vec::new(rt.alloc());
-    rt.stdin().read_to_end(&mut input)?;
     let mut out = vec![in rt.alloc(); 0u8; PIECE]?;
+    let input = read_all(rt, &mut out)?;
     if let Err(fault) = judge(&input) {
         let told = put_index_fault(fault, &mut out);
         return write_told(rt, told, &out);
@@ -36,6 +35,20 @@ fn list(rt: &HostRuntime, feed: Feed) -> io::Result<()> {
     }
     let told = listing.put_summary(&mut out);
     write_told(rt, told, &out)
+}
+
+/// All of standard input, read into the buffer piece by piece.
+// Not `read_to_end`: it makes room before the read that finds the end, and so asks for twice the memory of an input of 2^k bytes.
+fn read_all(rt: &HostRuntime, piece: &mut [u8]) -> io::Result<Vec<u8>> {
+    let mut input = Vec::new(rt.alloc());
+    for _ in 0..u64::MAX {
+        let len = rt.stdin().read(piece)?;
+        if len == 0 {
+            break;
+        }
+        input.extend_from_slice(&piece[..len])?;
+    }
+    Ok(input)
 }
 
 /// Writes a text that was put to the front of a buffer.
