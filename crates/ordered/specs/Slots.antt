@@ -1,5 +1,5 @@
 -- What slots mean that each hold a pair, in rising order of their keys.
-use Rattle.std.specs.Prelude.{ℕ, suc, ◌^◌, Bool, true, false, cond, ◌&&◌, List, [], ◌∷◌, is_some, Some, None, Ok, Err, Option, Result, nat_le, nat_lt}
+use Rattle.std.specs.Prelude.{ℕ, suc, ◌^◌, Bool, true, false, cond, ◌&&◌, List, [], ◌∷◌, is_some, Some, None, Ok, Err, Option, Result, ◌==◌, nat_le, nat_lt}
 use Rattle.std.specs.Ordering.{nat_cmp}
 use Rattle.std.specs.declared.cmp.Ordering.{Ordering}
 use Rattle.std.specs.declared.cmp.Ordering.TheVariants.{Less}
@@ -31,6 +31,16 @@ module _ {V : Type 0} where
   abbrev pub against : Option (ℕ × V) → ℕ → Ordering
   against None k = Less
   against (Some p) k = nat_cmp p.0 k
+
+  -- whether a slot holds a key below k
+  abbrev pub is_below : Option (ℕ × V) → ℕ → Bool
+  is_below None k = false
+  is_below (Some p) k = nat_lt p.0 k
+
+  -- whether a slot holds k
+  abbrev pub is_under : Option (ℕ × V) → ℕ → Bool
+  is_under None k = false
+  is_under (Some p) k = p.0 == k
 
   -- the value in a slot
   abbrev pub value_in : Option (ℕ × V) → Option V

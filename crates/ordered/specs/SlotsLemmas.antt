@@ -1,14 +1,14 @@
 -- Slots that each hold a pair, as the list of those pairs.
-use Rattle.std.specs.Prelude.{◌≡◌, ℕ, zero, suc, ◌^◌, ◌<◌, ◌≤◌, true, List, [], ◌∷◌, map, length, get_or, take, drop, set, is_some, Some, None, Ok, Err, Option, slice_index_or, slice_set, refl}
+use Rattle.std.specs.Prelude.{◌≡◌, ℕ, zero, suc, ◌^◌, ◌<◌, ◌≤◌, true, false, cond, List, [], ◌∷◌, map, length, get_or, take, drop, set, is_some, Some, None, Ok, Err, Option, slice_index_or, slice_set, refl}
 use Rattle.std.proofs.Common.{sym, ap, ◌∙◌, arith}
-use Rattle.std.proofs.lemmas.List.{map-append, map-set, take-map, drop-map}
-use Rattle.std.proofs.lemmas.Bool.{and_parts, and_from, false≢true}
+use Rattle.std.proofs.lemmas.List.{get_or_default, map-append, map-set, take-map, drop-map}
+use Rattle.std.proofs.lemmas.Bool.{and_parts, and_from, false≢true, ltb-true, ltb-false, eqb-true, eqb-false}
 use Rattle.std.proofs.lemmas.Bool.Decides.{nat_tests}
 use Rattle.std.specs.List.{insert, remove}
 use Rattle.store.specs.Held.{at, from, write, From, Fit}
 use Rattle.store.proofs.Maps.{from-write}
-use Rattle.ordered.specs.Slots.{pairs_of, sorted, rank, place, value_in}
-use Rattle.ordered.specs.Ranks.{at_index, at_place, from_rank, from_past, write_new, write_there, write_out, from_ok, from_err}
+use Rattle.ordered.specs.Slots.{pairs_of, sorted, rank, place, is_below, is_under, value_in}
+use Rattle.ordered.specs.Ranks.{rank_above, rank_below, at_index, at_missing, at_place, from_rank, from_past, write_new, write_there, write_out, from_ok, from_err}
 use Rattle.store.proofs.Writes.{fit-write}
 
 module _ {V : Type 0} where
@@ -72,6 +72,41 @@ module _ {V : Type 0} where
   removed_filled ps i = rw (take-map Some i ps, drop-map Some (suc i) ps) (sym (map-append Some (take i ps) (drop (suc i) ps)))
 
 module _ {V : Type 0} (ss : List (Option (ℕ × V))) (up : sorted 0 ss ≡ true) (k i : ℕ) where
+  -- A search.
+
+  pub above : (x : Option (ℕ × V)) → i < length ss → x ≡ slice_index_or ss i x → is_below x k ≡ true → i < rank (pairs_of ss) k
+  above x l e t =
+      let s = pair_at 0 ss i x up l e in
+      let lt : s.0.0 < k = ltb-true s.0.0 k (rw s.1 at t) in
+      rank_above 0 (pairs_of ss) k i s.0 (rising 0 ss up) (omega (arith, length_pairs 0 ss up)) (rw s.2 lt)
+
+  pub not_above : (x : Option (ℕ × V)) → i < length ss → x ≡ slice_index_or ss i x → is_below x k ≡ false → rank (pairs_of ss) k ≤ i
+  not_above x l e t =
+      let s = pair_at 0 ss i x up l e in
+      let le : k ≤ s.0.0 = ltb-false s.0.0 k (rw s.1 at t) in
+      rank_below (pairs_of ss) k i s.0 (omega (arith, length_pairs 0 ss up)) (rw s.2 le)
+
+  pub found : (x : Option (ℕ × V)) → i < length ss → x ≡ slice_index_or ss i x → i ≡ rank (pairs_of ss) k → is_under x k ≡ true → Ok i ≡ place (pairs_of ss) k
+  found x l e r t =
+      let s = pair_at 0 ss i x up l e in
+      let is : s.0.0 ≡ k = eqb-true s.0.0 k (rw s.1 at t) in
+      let a = at_index 0 (pairs_of ss) k i s.0 (rising 0 ss up) (omega (arith, length_pairs 0 ss up)) (rw s.2 is) in
+      ap Ok r ∙ sym (ap (λ o. cond (is_some o) (Ok (rank (pairs_of ss) k)) (Err (rank (pairs_of ss) k))) a)
+
+  missing : at (pairs_of ss) k ≡ None → i ≡ rank (pairs_of ss) k → Err i ≡ place (pairs_of ss) k
+  missing a r = ap Err r ∙ sym (ap (λ o. cond (is_some o) (Ok (rank (pairs_of ss) k)) (Err (rank (pairs_of ss) k))) a)
+
+  pub missing_here : (x : Option (ℕ × V)) → i < length ss → x ≡ slice_index_or ss i x → i ≡ rank (pairs_of ss) k → is_under x k ≡ false → Err i ≡ place (pairs_of ss) k
+  missing_here x l e r t =
+      let s = pair_at 0 ss i x up l e in
+      let n = length_pairs 0 ss up in
+      let other : s.0.0 ≡ k → ⊥ = eqb-false s.0.0 k (rw s.1 at t) in
+      missing (at_missing 0 (pairs_of ss) k (rising 0 ss up)
+      (λ d h is. other (ap (λ p. p.0) (sym s.2 ∙ get_or_default (pairs_of ss) i s.0 d (omega arith)) ∙ ap (λ j. (get_or (pairs_of ss) j d).0) r ∙ is))) r
+
+  pub missing_past : length ss ≤ i → i ≡ rank (pairs_of ss) k → Err i ≡ place (pairs_of ss) k
+  missing_past l r = missing (at_missing 0 (pairs_of ss) k (rising 0 ss up) (λ d h is. omega (arith, length_pairs 0 ss up))) r
+
   -- What a place gives.
 
   there : Ok i ≡ place (pairs_of ss) k → (is_some (at (pairs_of ss) k) ≡ true) × (i < length (pairs_of ss)) × ((d : ℕ × V) → (get_or (pairs_of ss) i d).0 ≡ k)
