@@ -2,7 +2,7 @@
 use Rattle.std.specs.Prelude.{ℕ, suc, ◌^◌, Bool, true, false, cond, ◌&&◌, List, [], ◌∷◌, is_some, Some, None, Ok, Err, Option, Result, ◌==◌, nat_le, nat_lt}
 use Rattle.std.specs.Ordering.{nat_cmp}
 use Rattle.std.specs.declared.cmp.Ordering.{Ordering}
-use Rattle.std.specs.declared.cmp.Ordering.TheVariants.{Less}
+use Rattle.std.specs.declared.cmp.Ordering.TheVariants.{Greater}
 use Rattle.store.specs.Held.{at}
 
 module _ {V : Type 0} where
@@ -27,9 +27,9 @@ module _ {V : Type 0} where
   abbrev pub place : List (ℕ × V) → ℕ → Result ℕ ℕ
   place ps k = cond (is_some (at ps k)) (Ok (rank ps k)) (Err (rank ps k))
 
-  -- how a slot's key stands to k; a free slot stands below each
+  -- how a slot's key stands to k; a free slot stands above each
   abbrev pub against : Option (ℕ × V) → ℕ → Ordering
-  against None k = Less
+  against None k = Greater
   against (Some p) k = nat_cmp p.0 k
 
   -- whether a slot holds a key below k

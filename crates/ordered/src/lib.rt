@@ -43,11 +43,11 @@ impl<'a, V: Copy> Ordered<'a, V> {
     }
 }
 
-/// How the key in `slot` stands to `key`; a free slot stands below each.
+/// How the key in `slot` stands to `key`; a free slot stands above each.
 fn against<V: Copy>(slot: &Slot<V>, key: u64) -> Ordering
     ensures { result ≡ against slot.now key }
 {
-    slot.map_or(Ordering::Less, |(held, _)| held.cmp(&key))
+    slot.map_or(Ordering::Greater, |(held, _)| held.cmp(&key))
 }
 
 impl<'a, V: Copy> Holds<V> for Ordered<'a, V> {

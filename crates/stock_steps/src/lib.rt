@@ -21,9 +21,13 @@ use wire::message::{Directory, Message, Restriction, TradingAction};
 fn elsewhere<S: Store<Stock>>(stocks: &S, locate: u16, symbol: &[u8; 8]) -> bool
     ensures { result ≡ elsewhere (S.Holds.held stocks.now).pairs locate symbol.now }
 {
-    pairs(stocks).any(|(other, stock)| {
-        other != locate as u64 && stock.listing.symbol == *symbol
-    })
+    // Not `any`: tried, and a day of many entries took no less time with it.
+    for (other, stock) in pairs(stocks) {
+        if other != locate as u64 && stock.listing.symbol == *symbol {
+            return true;
+        }
+    }
+    false
 }
 
 /// A stock as it enters the book.
